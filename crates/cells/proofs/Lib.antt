@@ -1,0 +1,4 @@
+pub mod Laid
+pub mod Refused
+pub mod Fields
+pub mod Agreeing

@@ -1,0 +1,8 @@
+//! The strip kind's value: a semantic type and the wrapped flag.
+use crate::semantic::SemanticType;
+
+#[derive(Clone, Copy)]
+pub struct StripAttributes {
+    pub semantic: SemanticType,
+    pub wrapped: bool,
+}

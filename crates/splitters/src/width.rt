@@ -1,0 +1,6 @@
+//! How wide a piece is.
+#[derive(Clone, Copy)]
+pub enum Width {
+    Narrow,
+    Wide,
+}
