@@ -113,7 +113,8 @@ impl TeenyString {
         ensures value { λ r. ⌜ r ≡ word-of (text-of (now (self .entry) .word)) (width-of (now (self .entry) .word)) ⌝ }
         ensures bits { λ r. ⌜ Bits r (spelled (now (self .entry) .word)) ⌝ }
     {
-        self.word
+        let TeenyString { word, .. } = self;
+        *word
     }
 
     /// How many bytes the text has.

@@ -1,0 +1,9 @@
+//! The help text.
+pub const HELP: &str = "panel: gauges rows of text against the displays of a junction cabinet
+
+Give the rows on standard input, a row to a line. For each line the panel prints
+its columns, its cells, how many controls became blanks, and whether it fits the
+door display (40 columns) and the laptop (80 columns) or by how much it passes;
+or the number of its refusal with a sentence. An account of all lines follows.
+
+  --help   print this and read nothing";
