@@ -9,8 +9,11 @@ use Rattle.std.proofs.shelf.Tests.{false≢true, eqb-true, eq-eqb}
 use Rattle.std.proofs.shelf.Ways.{decides-and, decides-eqb, decides-like}
 use Rattle.cells.specs.Cells.{Shown, equal, alike, Equal}
 use Rattle.cells.specs.Kinds.{Kind}
-use Rattle.cells.specs.Strips.{both}
 use Rattle.cells.specs.Words.{same-bytes}
+
+both : (x y : Bool) → (x && y) ≡ true → (x ≡ true) × (y ≡ true)
+both true y e = (refl, e)
+both false y e = absurd (false≢true e)
 
 pub one-text : (s t : List ℕ) → same-bytes s t ≡ true → s ≡ t
 one-text [] [] e = refl

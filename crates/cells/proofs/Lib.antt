@@ -1,4 +1,3 @@
 pub mod Laid
 pub mod Refused
-pub mod Fields
 pub mod Agreeing

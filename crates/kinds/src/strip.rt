@@ -1,5 +1,5 @@
 //! The strip kind's value: a semantic type and the wrapped flag.
-use crate::semantic::SemanticType;
+use cells::semantic::SemanticType;
 
 #[derive(Clone, Copy)]
 pub struct StripAttributes {

@@ -1,6 +1,6 @@
 //! The colour kind's value: a number with the flag and the type in its bits, and two colours. docs/ATTRIBUTES.md has the layout.
 ghost use Prim.Native.Nat.{_<_};
-ghost use Rattle.cells.specs.Bitfields.{type-bits};
+ghost use Rattle.kinds.specs.Bitfields.{type-bits};
 use crate::color::SmallColor;
 
 #[derive(Clone, Copy)]

@@ -3,11 +3,11 @@ use mathlib.Core.Bool.{cond}
 use Prim.Native.Nat.{ℕ, _<_, _^_}
 use native.Mathlib.Omega.{arith}
 use borrow.Author.Needs.{needs}
-use Rattle.cells.specs.Bitfields.{type-bits}
-use Rattle.cells.specs.Colors.{by-parts, flagged, same-flagged}
-use Rattle.cells.proofs.Fields.{reflagged}
-use Rattle.cells.proofs.colorkind.ColorKind.set_wrapped.Needs as need
-use Rattle.cells.proofs.colorkind.ColorKind.set_wrapped.Needs.{then-on, else-on}
+use Rattle.kinds.specs.Bitfields.{type-bits}
+use Rattle.kinds.specs.Colors.{by-parts, flagged, same-flagged}
+use Rattle.kinds.proofs.Fields.{reflagged}
+use Rattle.kinds.proofs.colorkind.ColorKind.set_wrapped.Needs as need
+use Rattle.kinds.proofs.colorkind.ColorKind.set_wrapped.Needs.{then-on, else-on}
 
 pub ghost-self : need.ghost-self
 ghost-self c =

@@ -8,10 +8,10 @@ use mathlib.Core.Bool.{Bool, true, false, _&&_}
 use native.Mathlib.Omega.{arith}
 use Prim.Native.Nat.{ℕ}
 use Rattle.std.proofs.shelf.Tests.{false≢true}
 use Rattle.cells.specs.Kinds.{Kind, same-type, same-flag}
 use Rattle.cells.specs.declared.semantic.SemanticType.{SemanticType}
 use Rattle.cells.specs.declared.semantic.SemanticType.the-variants.{Output, Input, Prompt}
-use Rattle.cells.specs.declared.strip.StripAttributes.{StripAttributes}
+use Rattle.kinds.specs.declared.strip.StripAttributes.{StripAttributes}
 
 abbrev pub strip : SemanticType → Bool → StripAttributes
 strip kind on = record { semantic = kind; wrapped = on }

@@ -4,9 +4,9 @@ use mathlib.Core.Bool.{Bool, true, false, cond}
 use Prim.Native.Nat.{ℕ, zero, suc, _+_, _-_, _*_, _/_, _%_, _^_, _<_}
 use native.Mathlib.Omega.{arith}
 use lib.Bits.{bitAnd, bitOr, and-mask, and-high, and-block, or-block, or-zero-r, or-shifted-r}
-use Rattle.cells.specs.Bitfields.{flag-bit, type-bits, with-flag}
+use Rattle.kinds.specs.Bitfields.{flag-bit, type-bits, with-flag}
 use Rattle.cells.specs.Kinds.{named}
 use Rattle.cells.specs.declared.semantic.SemanticType.the-variants.{Prompt}
 
 pub type-and : (n : ℕ) → bitAnd (n / 2 ^ 13) 3 ≡ type-bits n
 type-and n = and-mask (n / 2 ^ 13) 2

@@ -1,7 +1,7 @@
 use native.Mathlib.Omega.{arith}
 use Rattle.std.proofs.shelf.Ways.{tells}
-use Rattle.cells.proofs.Fields.{flag-and}
-use Rattle.cells.proofs.colorkind.ColorKind.wrapped.Needs as need
+use Rattle.kinds.proofs.Fields.{flag-and}
+use Rattle.kinds.proofs.colorkind.ColorKind.wrapped.Needs as need
 
 pub returns : need.returns
 returns c = let e = flag-and (c .args .self .now .attributes) in grind (arith, tells)

@@ -1,12 +1,12 @@
 //! The colour kind: a 32-bit number and two colours.
 ghost use mathlib.Core.Path.{_≡_};
-ghost use Rattle.cells.specs.Colors.{same-color, color-kind, painted};
+ghost use Rattle.kinds.specs.Colors.{same-color, color-kind, painted};
 ghost use Rattle.cells.specs.Refusals.{mapped};
-use crate::attributes::Attributes;
 use crate::cellattributes::CellAttributes;
 use crate::color::SmallColor;
-use crate::refusal::Refusal;
-use crate::semantic::SemanticType;
+use cells::attributes::Attributes;
+use cells::refusal::Refusal;
+use cells::semantic::SemanticType;
 
 const WRAPPED: u32 = 0x0000_0800;
 

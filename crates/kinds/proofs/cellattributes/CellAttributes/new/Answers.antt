@@ -4,11 +4,11 @@ use mathlib.Core.List.{[], _∷_}
 use native.Mathlib.Omega.{arith}
 use borrow.Author.Needs.{needs}
 use Rattle.std.proofs.shelf.Tests.{eq-eqb, ne-eqb}
-use Rattle.cells.specs.Bitfields.{type-bits}
+use Rattle.kinds.specs.Bitfields.{type-bits}
 use Rattle.cells.specs.Refusals.{first-of, verdict}
 use Rattle.cells.specs.declared.refusal.Refusal.the-variants.{BadType}
-use Rattle.cells.proofs.Fields.{type-and}
-use Rattle.cells.proofs.cellattributes.CellAttributes.new.Needs as need
+use Rattle.kinds.proofs.Fields.{type-and}
+use Rattle.kinds.proofs.cellattributes.CellAttributes.new.Needs as need
 
 pub returns-then-attributes-eq3 : need.returns-then-attributes-eq3
 returns-then-attributes-eq3 c =

@@ -16,15 +16,15 @@ use lib.Dec.{eqb, lit<}
 use Rattle.std.proofs.shelf.Tests.{false≢true, eqb-true, eqb-false, eq-eqb, ne-eqb}
 use Rattle.std.proofs.shelf.Bits.{shr-shr}
 use Rattle.std.specs.declared.result.Result.{Result}
 use Rattle.cells.specs.Refusals.{first-of, verdict}
 use Rattle.cells.specs.declared.refusal.Refusal.{Refusal}
 use Rattle.cells.specs.declared.refusal.Refusal.the-variants.{BadType}
-use Rattle.cells.specs.Bitfields.{flag-bit, type-bits, with-flag}
+use Rattle.kinds.specs.Bitfields.{flag-bit, type-bits, with-flag}
 use Rattle.cells.specs.Kinds.{Kind, named}
-use Rattle.cells.specs.Strips.{both}
-use Rattle.cells.specs.declared.color.SmallColor.{SmallColor}
-use Rattle.cells.specs.declared.color.SmallColor.the-variants.{Default, PaletteIndex}
-use Rattle.cells.specs.declared.cellattributes.CellAttributes.{CellAttributes}
+use Rattle.kinds.specs.Strips.{both}
+use Rattle.kinds.specs.declared.color.SmallColor.{SmallColor}
+use Rattle.kinds.specs.declared.color.SmallColor.the-variants.{Default, PaletteIndex}
+use Rattle.kinds.specs.declared.cellattributes.CellAttributes.{CellAttributes}
 
 abbrev pub same-color : SmallColor → SmallColor → Bool
 same-color Default Default = true

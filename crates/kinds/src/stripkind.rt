@@ -1,12 +1,12 @@
 //! The strip kind: only a semantic type and the wrapped flag.
 ghost use mathlib.Core.Path.{_≡_};
 ghost use Rattle.cells.specs.Kinds.{typed};
 ghost use Rattle.cells.specs.Refusals.{mapped};
-ghost use Rattle.cells.specs.Strips.{strip, strip-kind};
-use crate::attributes::Attributes;
-use crate::refusal::Refusal;
-use crate::semantic::SemanticType;
+ghost use Rattle.kinds.specs.Strips.{strip, strip-kind};
 use crate::strip::StripAttributes;
+use cells::attributes::Attributes;
+use cells::refusal::Refusal;
+use cells::semantic::SemanticType;
 
 impl StripAttributes {
     /// By the number of a type; 12 where there is no such type.

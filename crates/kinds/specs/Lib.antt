@@ -1,0 +1,3 @@
+pub mod Bitfields
+pub mod Colors
+pub mod Strips
