@@ -6,7 +6,7 @@ use Prim.Native.Nat.{ℕ}
 use lib.Dec.{eqb}
 use Rattle.std.specs.Orderings.{Decides}
 use Rattle.std.proofs.shelf.Tests.{false≢true, eqb-true, eq-eqb}
-use Rattle.std.proofs.shelf.Ways.{decides-and, decides-eqb, decides-like}
+use Rattle.std.proofs.shelf.Ways.{decides-and, decides-at, decides-eqb, decides-like}
 use Rattle.cells.specs.Cells.{Shown, equal, alike, Equal}
 use Rattle.cells.specs.Kinds.{Kind}
 use Rattle.cells.specs.Words.{same-bytes}
@@ -47,3 +47,9 @@ module _ {A : Type 0} (k : Kind A) where
       (λ (p : (a .width ≡ b .width) × Equal a b). λ i. record { text = p .1 .text i; width = p .0 i; attrs = p .1 .attrs i })
       (λ (e : a ≡ b). (ap (λ x. x .width) e, record { text = ap (λ x. x .text) e; attrs = ap (λ x. x .attrs) e }))
       (decides-and (eqb (a .width) (b .width)) (equal k a b) (decides-eqb (a .width) (b .width)) (equal-exact a b))
+
+  -- an answer that is right of the attributes where the texts agree, and false where they do not
+  pub equal-when : (a b : Shown A) (t r : Bool) → t ≡ same-bytes (a .text) (b .text) → r ≡ (t && k .same (a .attrs) (b .attrs)) → (r ≡ equal k a b) × Decides r (Equal a b)
+  equal-when a b t r e d =
+      let v : r ≡ equal k a b = d ∙ ap (λ (x : Bool). x && k .same (a .attrs) (b .attrs)) e in
+      (v, decides-at r (equal k a b) v (equal-exact a b))
