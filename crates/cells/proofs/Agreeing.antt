@@ -10,10 +10,7 @@ use Rattle.std.proofs.shelf.Ways.{decides-and, decides-at, decides-eqb, decides
 use Rattle.cells.specs.Cells.{Shown, equal, alike, Equal}
 use Rattle.cells.specs.Kinds.{Kind}
 use Rattle.cells.specs.Words.{same-bytes}
-
-both : (x y : Bool) → (x && y) ≡ true → (x ≡ true) × (y ≡ true)
-both true y e = (refl, e)
-both false y e = absurd (false≢true e)
+use Rattle.cells.proofs.Identical.{both}
 
 pub one-text : (s t : List ℕ) → same-bytes s t ≡ true → s ≡ t
 one-text [] [] e = refl

@@ -1,3 +1,4 @@
 pub mod Laid
 pub mod Refused
 pub mod Agreeing
+pub mod Identical

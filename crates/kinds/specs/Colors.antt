@@ -21,7 +21,7 @@ use Rattle.cells.specs.declared.refusal.Refusal.{Refusal}
 use Rattle.cells.specs.declared.refusal.Refusal.the-variants.{BadType}
 use Rattle.kinds.specs.Bitfields.{flag-bit, type-bits, with-flag}
 use Rattle.cells.specs.Kinds.{Kind, named}
-use Rattle.kinds.specs.Strips.{both}
+use Rattle.cells.proofs.Identical.{both}
 use Rattle.kinds.specs.declared.color.SmallColor.{SmallColor}
 use Rattle.kinds.specs.declared.color.SmallColor.the-variants.{Default, PaletteIndex}
 use Rattle.kinds.specs.declared.cellattributes.CellAttributes.{CellAttributes}

@@ -3,11 +3,9 @@
 -- strip-same    whether type and flag agree
 -- strip-kind    the kind
 -- (The other names are proofs of its laws.)
-use mathlib.Core.Path.{_≡_, refl, sym}
+use mathlib.Core.Path.{_≡_, refl}
 use mathlib.Core.Bool.{Bool, true, false, _&&_}
-use native.Mathlib.Omega.{arith}
-use Prim.Native.Nat.{ℕ}
-use Rattle.std.proofs.shelf.Tests.{false≢true}
+use Rattle.cells.proofs.Identical.{both, one-type, one-flag}
 use Rattle.cells.specs.Kinds.{Kind, same-type, same-flag}
 use Rattle.cells.specs.declared.semantic.SemanticType.{SemanticType}
 use Rattle.cells.specs.declared.semantic.SemanticType.the-variants.{Output, Input, Prompt}
@@ -19,35 +17,10 @@ strip kind on = record { semantic = kind; wrapped = on }
 abbrev pub strip-same : StripAttributes → StripAttributes → Bool
 strip-same a b = same-type (a .semantic) (b .semantic) && same-flag (a .wrapped) (b .wrapped)
 
-pub both : (x y : Bool) → (x && y) ≡ true → (x ≡ true) × (y ≡ true)
-both true y e = (refl, e)
-both false y e = absurd (false≢true e)
-
-pub type-of : (a b : SemanticType) → same-type a b ≡ true → a ≡ b
-type-of Output Output e = refl
-type-of Output Input e = absurd (false≢true e)
-type-of Output Prompt e = absurd (false≢true e)
-type-of Input Output e = absurd (false≢true e)
-type-of Input Input e = refl
-type-of Input Prompt e = absurd (false≢true e)
-type-of Prompt Output e = absurd (false≢true e)
-type-of Prompt Input e = absurd (false≢true e)
-type-of Prompt Prompt e = refl
-
-pub flag-of : (a b : Bool) → same-flag a b ≡ true → a ≡ b
-flag-of true b e = sym e
-flag-of false true e = absurd (false≢true e)
-flag-of false false e = refl
-
-pub type-itself : (a : SemanticType) → same-type a a ≡ true
-type-itself Output = refl
-type-itself Input = refl
-type-itself Prompt = refl
-
 pub identical : (a b : StripAttributes) → strip-same a b ≡ true → a ≡ b
 identical a b e i =
     let h = both (same-type (a .semantic) (b .semantic)) (same-flag (a .wrapped) (b .wrapped)) e in
-    strip (type-of (a .semantic) (b .semantic) (h .0) i) (flag-of (a .wrapped) (b .wrapped) (h .1) i)
+    strip (one-type (a .semantic) (b .semantic) (h .0) i) (one-flag (a .wrapped) (b .wrapped) (h .1) i)
 
 pub itself : (t : SemanticType) (on : Bool) → strip-same (strip t on) (strip t on) ≡ true
 itself Output true = refl

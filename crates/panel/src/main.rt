@@ -1,8 +1,8 @@
 //! The panel: rows of text from standard input, each gauged against the door display and the laptop.
 use reports::help::HELP;
 use reports::panels::report;
-use splitters::ascii::Ascii;
-use splitters::ascii::AsciiSplitter;
+use utf8::Utf8;
+use utf8::Utf8Splitter;
 use std::env;
 use std::error::AnyError;
 use std::io::Read;
@@ -23,7 +23,7 @@ fn run(rt: &LibcRuntime) -> Result<(), AnyError> {
     }
     let mut text = Vec::new(rt.alloc());
     rt.stdin().read_to_end(&mut text)?;
-    let _ = report::<Ascii>(rt, text.as_slice())?;
+    let _ = report::<Utf8>(rt, text.as_slice())?;
     Ok(())
 }
 

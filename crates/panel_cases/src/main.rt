@@ -1,13 +1,13 @@
 //! The panel's work on texts that one stored run cannot show: no input, no final line feed, nothing but line feeds; and its help.
 use reports::help::HELP;
 use reports::panels::report;
-use splitters::ascii::Ascii;
-use splitters::ascii::AsciiSplitter;
+use utf8::Utf8;
+use utf8::Utf8Splitter;
 use std::error::AnyError;
 
 fn case(rt: &LibcRuntime, name: &str, text: &[u8]) -> Result<(), AnyError> {
     println!(rt, "== {name}")?;
-    let _ = report::<Ascii>(rt, text)?;
+    let _ = report::<Utf8>(rt, text)?;
     Ok(())
 }
 
