@@ -3,6 +3,7 @@
 -- word-of        the word of a text and a width
 -- text-of        the text of a word: its bytes up to the first zero, at most seven
 -- width-of       the width of a word
+-- is-space, has-zero, same-bytes   whether a text is a space, has a zero byte, is byte by byte another
 -- Text           a text and its width
 -- spelled        the text and the width of a word
 -- word-refusals  what a clean text and a width are refused for, in the order of the numbers

@@ -183,6 +183,8 @@ module _ {A : Type 0} (k : Kind A) (p : Splits) (room : Room) (rule : List (Show
   choosing = record {
     smallest = smallest;
     ascending = ascending;
+    words = λ t width. refl;
+    graphemes = λ t given. refl;
     says = says;
     refused = λ s c why e. ap (λ o. settled o (accepted k p room s c)) e;
     unchanged = unchanged;

@@ -16,7 +16,8 @@ use Rattle.rows.specs.Cuttings.{Neighbours}
 use Rattle.rows.specs.Lists.{span, joined}
 use Rattle.rows.specs.Trims.{any, up-to-last, not-plain}
 use Rattle.rows.specs.WrapLaws.{Trimmed}
-use Rattle.rows.specs.Zones.{stretches, kept, cell-type, one-type, type-of, front, Zone, moved, in-columns, zones}
+use Rattle.rows.specs.Zones.{stretches, kept, cell-type, one-type, type-of, Zone, moved, in-columns, zones}
+use Rattle.rows.specs.Packing.{without-last}
 use Rattle.rows.specs.ZoneLaws.{Some-of, Kept, Stretched, Has-column, Ordered, Zoned}
 use Rattle.rows.proofs.Lengths.{span-take-le}
 use Rattle.rows.proofs.Spans.{span-append}
@@ -66,15 +67,15 @@ module _ {A : Type 0} where
   abbrev Solid : List (Shown A) → Type 0
   Solid cs = All (λ c. 0 < c .width) cs
 
-  front-shorter : (row : List (Shown A)) → 0 < length row → Solid row → span (front row) < span row
-  front-shorter [] some h = absurd (omega arith)
-  front-shorter (c ∷ []) some h = omega (arith, h .0)
-  front-shorter (c ∷ (d ∷ row)) some h = let i = front-shorter (d ∷ row) (omega arith) (h .1) in omega arith
+  without-last-shorter : (row : List (Shown A)) → 0 < length row → Solid row → span (without-last row) < span row
+  without-last-shorter [] some h = absurd (omega arith)
+  without-last-shorter (c ∷ []) some h = omega (arith, h .0)
+  without-last-shorter (c ∷ (d ∷ row)) some h = let i = without-last-shorter (d ∷ row) (omega arith) (h .1) in omega arith
 
-  front-reaches : (before : List (Shown A)) (c : Shown A) (mid : List (Shown A)) → span before ≤ span (front (before ++ (c ∷ mid)))
-  front-reaches [] c mid = omega arith
-  front-reaches (b ∷ []) c mid = omega arith
-  front-reaches (b ∷ (d ∷ before)) c mid = let i = front-reaches (d ∷ before) c mid in omega arith
+  without-last-reaches : (before : List (Shown A)) (c : Shown A) (mid : List (Shown A)) → span before ≤ span (without-last (before ++ (c ∷ mid)))
+  without-last-reaches [] c mid = omega arith
+  without-last-reaches (b ∷ []) c mid = omega arith
+  without-last-reaches (b ∷ (d ∷ before)) c mid = let i = without-last-reaches (d ∷ before) c mid in omega arith
 
 module _ {A : Type 0} (k : Kind A) where
   zones-each : (rows : List (List (Shown A))) → All (λ z. z .first ≤ z .last) (in-columns k rows)
@@ -92,7 +93,7 @@ module _ {A : Type 0} (k : Kind A) where
   zones-disjoint [] filled solid = tt
   zones-disjoint (row ∷ []) filled solid = tt
   zones-disjoint (row ∷ (next ∷ rows)) filled solid =
-      let s = front-shorter row (filled .0) (all-left (λ c. 0 < c .width) row (joined (next ∷ rows)) solid) in (
+      let s = without-last-shorter row (filled .0) (all-left (λ c. 0 < c .width) row (joined (next ∷ rows)) solid) in (
         omega arith,
         neighbours-map Before Before (moved (span row)) (λ y z h. omega arith) (in-columns k (next ∷ rows))
             (zones-disjoint (next ∷ rows) (filled .1) (all-right (λ c. 0 < c .width) row (joined (next ∷ rows)) solid)),
@@ -116,8 +117,8 @@ module _ {A : Type 0} (k : Kind A) where
       (λ p.
       let same : p .0 ≡ c = cc (p .3) in
       let all = all-right (λ d. cell-type k d ≡ type-of k row) before (p .0 ∷ p .1) (subst (λ xs. All (λ d. cell-type k d ≡ type-of k row) xs) (p .2) (one .0)) in
-      let f = front-reaches before (p .0) (p .1) in
-      let g : span (front row) ≡ span (front (before ++ (p .0 ∷ p .1))) = ap (λ xs. span (front xs)) (p .2) in
+      let f = without-last-reaches before (p .0) (p .1) in
+      let g : span (without-last row) ≡ span (without-last (before ++ (p .0 ∷ p .1))) = ap (λ xs. span (without-last xs)) (p .2) in
       inl ((omega arith, omega arith), sym (all .0) ∙ ap (cell-type k) same))
       (λ p.
       let s : span before ≡ span row + span (p .0) = ap span (p .1) ∙ span-append row (p .0) in
@@ -128,7 +129,7 @@ module _ {A : Type 0} (k : Kind A) where
   zones-end : (rows : List (List (Shown A))) → All (λ r. 0 < length r) rows → Solid (joined rows) → All (λ z. z .last < span (joined rows)) (in-columns k rows)
   zones-end [] filled solid = tt
   zones-end (row ∷ rows) filled solid =
-      let s = front-shorter row (filled .0) (all-left (λ c. 0 < c .width) row (joined rows) solid) in
+      let s = without-last-shorter row (filled .0) (all-left (λ c. 0 < c .width) row (joined rows) solid) in
       let a = span-append row (joined rows) in (
         omega arith,
         all-map _ (moved (span row)) (in-columns k rows) (all-weaker (λ z. z .last < span (joined rows)) _ (λ z h. omega arith) (in-columns k rows)
@@ -151,8 +152,8 @@ module _ {A : Type 0} (k : Kind A) where
     blanks = λ h. kept-whole cs (all-plain cs h);
   }
 
-  kept-front : (cs : List (Shown A)) → (dropped : List (Shown A)) × (kept k cs ++ dropped ≡ cs)
-  kept-front cs =
+  kept-without-last : (cs : List (Shown A)) → (dropped : List (Shown A)) × (kept k cs ++ dropped ≡ cs)
+  kept-without-last cs =
       ⊎-elim
       (λ e. let t = kept-cells cs .trimmed e in (t .dropped, t .joins))
       (λ e. ([], append-nil (kept k cs) ∙ kept-whole cs e))
@@ -173,7 +174,7 @@ module _ {A : Type 0} (k : Kind A) where
   -- cells with none behind that is kept take all the kept columns
   past-kept : (cs before behind : List (Shown A)) → before ++ behind ≡ cs → length (kept k cs) ≤ length before → span (kept k cs) ≤ span before
   past-kept cs before behind e h =
-      let f = kept-front cs in
+      let f = kept-without-last cs in
       let x : span (take (length (kept k cs)) cs) ≡ span (kept k cs) = ap (λ xs. span (take (length (kept k cs)) xs)) (sym (f .1)) ∙ ap span (take-append-seam (kept k cs) (f .0)) in
       let y : span (take (length before) cs) ≡ span before = ap (λ xs. span (take (length before) xs)) (sym e) ∙ ap span (take-append-seam before behind) in
       let m = span-take-le (length (kept k cs)) (length before) cs h in
@@ -181,7 +182,7 @@ module _ {A : Type 0} (k : Kind A) where
 
   ordered : (cs : List (Shown A)) → Solid cs → Ordered k cs (zones k cs)
   ordered cs solid =
-      let f = kept-front cs in
+      let f = kept-without-last cs in
       let cut = stretches-cutting (one-type k) (kept k cs) in
       let by = stretches-by-type k (kept k cs) in
       let s : Solid (joined (rows cs)) = subst Solid (sym (cut .joins)) (all-left (λ c. 0 < c .width) (kept k cs) (f .0) (subst Solid (sym (f .1)) solid)) in

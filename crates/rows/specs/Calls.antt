@@ -2,7 +2,8 @@
 -- Change    a call that edits a row alone, with its arguments
 -- Call      a call with its arguments: an edit; `append_line` with another row; `split_off` with the second row's room; a question; compaction; expansion
 -- Outcome   what a call answers and writes: a refusal; nothing more; a second row; a reply
--- change-refusals, refusals    what refuses a call, in the order of the numbers; of compaction `compaction` says it
+-- change-refusals, refusals    what refuses a call, in the order of the numbers; of compaction `compaction` says it, however the row is held:
+--           what a store holds already, it took one by one, so that putting it there again is refused by nothing
 -- change, edit                 what a call does to the row
 -- step      the state that a call leaves
 -- accepted  what a call that is not refused answers and writes

@@ -2,7 +2,8 @@
 -- fits       whether a refusal of that number stands in a list, and its condition holds
 -- ascends    whether the numbers of a list ascend
 -- Smallest   a refusal is given exactly if its condition holds and that of no smaller number does; none exactly if no condition holds
--- Choosing   so it is of every list whose numbers ascend; every call's list ascends, and the call gives the refusal of its list;
+-- Choosing   so it is of every list whose numbers ascend; every call's list ascends, and those of making a text word and a cell;
+--            every call but compaction and expansion gives the refusal of its list (of compaction PackingLaws says which it gives);
 --            a refusal changes nothing
 use mathlib.Core.Path.{_≡_}
 use mathlib.Core.List.{List, [], _∷_}
@@ -15,6 +16,8 @@ use Rattle.cells.specs.Cells.{Shown}
 use Rattle.cells.specs.Kinds.{Kind}
 use Rattle.cells.specs.Refusals.{number, first-of}
 use Rattle.cells.specs.declared.refusal.Refusal.{Refusal}
+use Rattle.cells.specs.Words.{word-refusals}
+use Rattle.splitters.specs.Graphemes.{grapheme-refusals}
 use Rattle.splitters.specs.Splits.{Splits}
 use Rattle.rows.specs.Rows.{State, Room}
 use Rattle.rows.specs.Calls.{Call, Refused, refusals, refusal, outcome, step, packs}
@@ -40,6 +43,8 @@ pub record Smallest (whys : List (Bool × Refusal)) : Type 0 where
 pub record Choosing {A : Type 0} (k : Kind A) (p : Splits) (room : Room) (rule : List (Shown A) → Shown A → Option Refusal) : Type 0 where
   pub smallest : (whys : List (Bool × Refusal)) → ascends whys ≡ true → Smallest whys
   pub ascending : (s : State A) (c : Call A) → ascends (refusals k p room s c) ≡ true
+  pub words : (t : List ℕ) (width : ℕ) → ascends (word-refusals t width) ≡ true
+  pub graphemes : (t : List ℕ) (given : Option ℕ) → ascends (grapheme-refusals p t given) ≡ true
   pub says : (s : State A) (c : Call A) → packs c ≡ false → refusal k p room rule s c ≡ first-of (refusals k p room s c)
   pub refused : (s : State A) (c : Call A) (why : Refusal) → refusal k p room rule s c ≡ Some why → outcome k p room rule s c ≡ Refused why
   pub unchanged : (s : State A) (c : Call A) (why : Refusal) → refusal k p room rule s c ≡ Some why → step k p room s c ≡ s

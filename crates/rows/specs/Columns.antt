@@ -6,7 +6,7 @@
 -- blanked     a wide cell that starts just before column x becomes two blanks with its attributes
 -- padded      filled up to n columns with plain blanks
 -- without     without column x
--- over        a cell's columns in place of those from x on
+-- over        a cell's columns in place of as many from x on
 -- between     a cell's columns put in before column x
 use mathlib.Core.Path.{_≡_}
 use mathlib.Core.List.{List, [], _∷_, _++_}

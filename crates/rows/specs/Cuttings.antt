@@ -3,7 +3,7 @@
 -- Fits         a row's length is at most the width
 -- Fits-or-one  a row fits, or is one cell
 -- Neighbours   what holds of each of a list and the next
--- Breaks       a new row begins exactly when the current one has a cell and the next would pass the width
+-- Breaks       of rows that each have a cell: a new one begins exactly when the next cell would pass the width in the current one
 use mathlib.Core.Path.{_≡_}
 use mathlib.Core.List.{List, [], _∷_, _++_}
 use mathlib.Core.Logic.{_⊎_}

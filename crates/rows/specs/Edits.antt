@@ -3,7 +3,8 @@
 -- set-columns    the columns that `set_cell` makes
 -- made-room      the columns into which `insert_cell` puts its cell: where the margin is at most the length, the column before it goes;
 --                then they are filled with plain blanks up to x
--- parts-wide     whether a step before the insertion would part a wide cell's second column from its first
+-- parts-wide     whether a step would part a wide cell's second column from its first: the column before the margin is a second one,
+--                or x is one where the cell is put in
 -- some-cell      a row with no cell first gets a plain blank
 -- from-text, set-cell, insert-cell, erase-cell, remove-cell, prune-trailing-blanks, resize, set-last-cell-was-wrapped, append-line
 --                what the call of that name does
@@ -41,7 +42,7 @@ text-refusals p room t a =
 abbrev pub from-text : {A : Type 0} → Splits → Room → List ℕ → A → ℕ → Edit A
 from-text p room t a seqno = record { refusal = first-of (text-refusals p room t a); cells = cells-of p a t; number = seqno }
 
--- set_cell: past the end a plain blank adds no column; else filled up to x, the wide cell before x blanked, the cell's columns over those there
+-- set_cell: past the end a plain blank adds no column; else filled up to x, a wide cell that starts in the column before x blanked, the cell's columns over those there
 abbrev pub set-refusals : {A : Type 0} → Splits → Room → ℕ → Shown A → List (Bool × Refusal)
 set-refusals p room x c = cell-refusals p c ++ ((passes room (x + c .width), PastCapacity) ∷ [])
 
@@ -70,7 +71,7 @@ abbrev pub insert-cell : {A : Type 0} → Kind A → Splits → Room → ℕ →
 insert-cell k p room x c margin seqno s =
     becomes (insert-refusals k p room x c margin (spread (s .cells))) (between x c (made-room k x margin (spread (s .cells)))) seqno s
 
--- remove_cell and erase_cell: nothing at or past the end; else the wide cell before x is blanked and column x goes
+-- remove_cell and erase_cell: nothing at or past the end; else a wide cell that starts in the column before x is blanked, and column x goes
 abbrev pub remove-cell : {A : Type 0} → ℕ → ℕ → State A → Edit A
 remove-cell x seqno s =
     cond (ltb x (length (spread (s .cells)))) (becomes [] (without x (blanked x (spread (s .cells)))) seqno s) (stays s)

@@ -6,6 +6,7 @@
 -- behind         each of a list, with those before it
 -- first-some     the first refusal of a list
 -- compaction     what refuses to put cells into an empty store: the refusal of the first refused cell
+-- fuses-behind   the same behind one cell or none
 -- fuses          the first piece of both texts joined is longer than the last cell's text
 -- unlike         how many neighbours have unlike attributes
 -- runs-needed    how many runs of equal attributes cells need: one more than that, and none for no cell

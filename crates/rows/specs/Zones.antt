@@ -6,7 +6,6 @@
 -- one-type       whether two cells are of one type
 -- Zone           a semantic type, the first column of the first cell, and the first column of the last cell
 -- type-of        the type of a stretch: that of its first cell
--- front          a list without its last
 -- zone           the zone of a stretch that begins in column 0
 -- moved          a zone so many columns further right
 -- in-columns     the zones of stretches that stand side by side from column 0
@@ -19,6 +18,7 @@ use Rattle.cells.specs.Cells.{Shown}
 use Rattle.cells.specs.Kinds.{Kind, same-type}
 use Rattle.cells.specs.declared.semantic.SemanticType.{SemanticType}
 use Rattle.rows.specs.Lists.{span}
+use Rattle.rows.specs.Packing.{without-last}
 use Rattle.rows.specs.Trims.{any, up-to-last, not-plain}
 use Rattle.rows.specs.Writing.{Writes, writes}
 
@@ -49,13 +49,8 @@ abbrev pub type-of : {A : Type 0} → Kind A → List (Shown A) → SemanticType
 type-of k [] = k .semantic (k .blank)
 type-of k (c ∷ cs) = cell-type k c
 
-abbrev pub front : {X : Type 0} → List X → List X
-front [] = []
-front (x ∷ []) = []
-front (x ∷ (y ∷ ys)) = x ∷ front (y ∷ ys)
-
 abbrev pub zone : {A : Type 0} → Kind A → List (Shown A) → Zone
-zone k r = record { semantic = type-of k r; first = 0; last = span (front r) }
+zone k r = record { semantic = type-of k r; first = 0; last = span (without-last r) }
 
 abbrev pub moved : ℕ → Zone → Zone
 moved by z = record { semantic = z .semantic; first = by + z .first; last = by + z .last }

@@ -1,6 +1,7 @@
 -- A cell from a text.
 -- cell-width         its width: as given, or the splitter's
 -- bad-given          whether a given width is none that the text may have
+-- one-piece          whether a text is one piece: its first piece is as long as it is
 -- grapheme-refusals  what refuses a text as a cell: not good as given; after cleaning not one piece, longer than seven bytes, of a bad width
 -- grapheme           the shown cell of a text, or the refusal
 use mathlib.Core.List.{List, [], _∷_}
