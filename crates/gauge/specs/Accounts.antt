@@ -3,8 +3,8 @@
 -- plus        a sum that stops at 2^128 - 1
 -- empty       the account of no lines
 -- counted     an account with one line more
--- account-on  an account with a list of lines more
--- account-of  the account of a list of lines
+-- account-on  an account with more lines, by what each comes to
+-- account-of  the account of lines, by what each comes to
 use mathlib.Core.List.{List, [], _∷_}
 use mathlib.Core.Bool.{cond}
 use Prim.Native.Nat.{ℕ, _+_, _-_, _^_, min, max}
@@ -14,8 +14,6 @@ use Rattle.std.specs.declared.result.Result.{Result}
 use Rattle.std.specs.declared.result.Result.the-variants.{Ok, Err}
 use Rattle.cells.specs.Refusals.{number}
 use Rattle.cells.specs.declared.refusal.Refusal.{Refusal}
-use Rattle.splitters.specs.Splits.{Splits}
-use Rattle.gauge.specs.Measures.{measured}
 use Rattle.gauge.specs.declared.account.Account.{Account}
 use Rattle.gauge.specs.declared.fit.Fit.{Fit}
 use Rattle.gauge.specs.declared.fit.Fit.the-variants.{Fits, PassesBy}
@@ -54,9 +52,9 @@ counted a (Err why) = record {
   refused = set (a .refused) (number why - 1) (plus (getD (a .refused) (number why - 1) 0) 1);
 }
 
-abbrev pub account-on : Splits → Account → List (List ℕ) → Account
-account-on p a [] = a
-account-on p a (line ∷ lines) = account-on p (counted a (measured p line)) lines
+abbrev pub account-on : Account → List (Result Measure Refusal) → Account
+account-on a [] = a
+account-on a (outcome ∷ outcomes) = account-on (counted a outcome) outcomes
 
-abbrev pub account-of : Splits → List (List ℕ) → Account
-account-of p lines = account-on p empty lines
+abbrev pub account-of : List (Result Measure Refusal) → Account
+account-of outcomes = account-on empty outcomes

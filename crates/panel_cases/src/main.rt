@@ -1,13 +1,22 @@
 //! The panel's work on texts that one stored run cannot show: no input, no final line feed, nothing but line feeds; and its help.
+use cells::attributes::Attributes;
+use columns::edits::VecStorageFill;
+use columns::edits::VecStorageGrid;
+use columns::stored::VecStorageStore;
+use columns::vecstorage::VecStorage;
+use kinds::cellattributes::CellAttributes;
+use kinds::colorkind::ColorKind;
 use reports::help::HELP;
 use reports::panels::report;
+use std::error::AnyError;
 use utf8::Utf8;
 use utf8::Utf8Splitter;
-use std::error::AnyError;
 
 fn case(rt: &LibcRuntime, name: &str, text: &[u8]) -> Result<(), AnyError> {
     println!(rt, "== {name}")?;
-    let _ = report::<Utf8>(rt, text)?;
+    let cells = Vec::with_capacity(rt.alloc(), 4096)?;
+    let mut row: VecStorage<CellAttributes, Utf8> = VecStorage::new(cells, 4096, 0);
+    let _ = report(rt, rt.alloc(), &mut row, &ColorKind::blank(), text)?;
     Ok(())
 }
 

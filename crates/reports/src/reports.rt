@@ -19,6 +19,13 @@ pub struct LineReport<'a> {
 #[derive(Drop)]
 pub struct AccountReport<'a>(pub &'a Account);
 
+/// A row as a display shows it, and its change number.
+#[derive(Drop)]
+pub struct RowReport<'a> {
+    pub number: u64,
+    pub text: &'a str,
+}
+
 /// Whether a display suffices.
 #[derive(Drop)]
 struct Fitting(Fit);
@@ -78,6 +85,14 @@ pub impl fmt::Display for LineReport<'_> as LineReportDisplay {
                 write!(f, "line {number}: refused {refusal}: {words}")
             }
         }
+    }
+}
+
+pub impl fmt::Display for RowReport<'_> as RowReportDisplay {
+    fn fmt<W: fmt::Write>(&self, f: &mut fmt::Formatter<W>) -> fmt::Result {
+        let number = self.number;
+        let text = self.text;
+        write!(f, "  shown at change number {number}: |{text}|")
     }
 }
 

@@ -1,0 +1,3 @@
+//! Lines of text as rows on a board.
+pub mod rows;
+pub mod texts;

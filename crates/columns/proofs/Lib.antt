@@ -1,0 +1,8 @@
+mod Means
+mod Writes
+mod Reading
+mod Seconds
+mod Moved
+mod Dones
+mod Trims
+mod Cuts
