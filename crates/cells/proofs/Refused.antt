@@ -1,12 +1,11 @@
 -- What a clean text that nothing refuses is like.
-use Rattle.std.proofs.Common.{◌≡◌, ℕ, zero, suc, ◌+◌, ◌*◌, ◌^◌, ◌<◌, ◌≤◌, Bool, true, false, cond, not, ◌&&◌, ◌||◌, eqb, ltb, ◌⊎◌, List, [], ◌∷◌, length, Some, None, Option, sym, refl, ap, ◌∙◌, subst, inl, inr, ⊎_elim, arith}
+use Rattle.std.proofs.Common.{◌≡◌, ℕ, zero, suc, ◌*◌, ◌^◌, ◌<◌, ◌≤◌, Bool, true, false, cond, not, ◌&&◌, ◌||◌, eqb, ◌⊎◌, List, [], ◌∷◌, length, Some, None, Option, sym, refl, ap, ◌∙◌, inl, inr, ⊎_elim, arith}
 use lib.Bits.{bit_or}
 use Rattle.std.proofs.lemmas.Bool.{false≢true, ltb-false, ne_eqb, eqb-true}
-use Rattle.std.proofs.lemmas.Bool.Decides.{nat_tests}
 use Rattle.cells.specs.declared.refusal.Refusal.{Refusal}
 use Rattle.cells.specs.Cleaning.{unclean, clean, space}
 use Rattle.cells.specs.Refusals.{first_of}
-use Rattle.cells.specs.Words.{value, word_of, text_of, width_of, has_zero, bad_width, is_space, word_refusals, Text, spelled}
+use Rattle.cells.specs.Words.{value, word_of, text_of, width_of, has_zero, bad_width, is_space, word_refusals, spelled}
 use Rattle.cells.proofs.Laid.{Solid, Bytes, small, laid, topped, widened}
 
 pub nonempty : (t : List ℕ) → unclean t ≡ false → 0 < length t

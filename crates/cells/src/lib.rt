@@ -1,4 +1,6 @@
 //! Cells of a row: the text word, what an attribute kind is, and the refusals of every call.
+#![tactic(auto)]
+
 pub mod attributes;
 pub mod cell;
 mod cells;

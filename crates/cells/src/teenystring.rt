@@ -76,7 +76,7 @@ fn packed(text: &[u8]) -> u64
 /// The word of a clean text that nothing refuses.
 fn pack(text: &[u8], width: usize) -> TeenyString
     requires { (unclean text.now ≡ false) × (first_of (word_refusals text.now width) ≡ None) }
-    ensures { spelled result.word ≡ record { text = text.entry.now; width = width } }
+    ensures { spelled result.word ≡ record { text = text.now; width = width } }
 {
     let mut word = TOP | packed(text);
     if width == 2 {

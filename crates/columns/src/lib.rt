@@ -1,4 +1,6 @@
 //! The column store: a cell in each column, in memory handed over.
+#![tactic(auto)]
+
 pub mod edits;
 mod ends;
 mod inserts;

@@ -1,4 +1,6 @@
 //! Lines of text gauged as cells against the displays, and an account of them.
+#![tactic(auto)]
+
 pub mod account;
 pub mod accounts;
 pub mod fit;

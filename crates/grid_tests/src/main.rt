@@ -1,6 +1,8 @@
 //! Every call of the column store at every column of every row of up to four columns; a line for each row and call.
 //! Cells: a and x narrow, W wide, _ a plain blank, c a coloured blank; ! behind a cell is its wrapped flag.
 //! Each outcome: the refusal's number or ok, the row after the call, its change number, and a second row's if there is one.
+#![tactic(auto)]
+
 use cells::attributes::Attributes;
 use cells::cell::Cell;
 use cells::refusal::Refusal;

@@ -1,4 +1,6 @@
 //! The panel: rows of text from standard input, each gauged against the door display and the laptop, and shown as a row.
+#![tactic(auto)]
+
 use cells::attributes::Attributes;
 use columns::vecstorage::VecStorage;
 use kinds::cellattributes::CellAttributes;

@@ -1,4 +1,6 @@
 //! The panel's work on texts that one stored run cannot show: no input, no final line feed, nothing but line feeds; and its help.
+#![tactic(auto)]
+
 use cells::attributes::Attributes;
 use columns::vecstorage::VecStorage;
 use kinds::cellattributes::CellAttributes;

@@ -1,4 +1,6 @@
 //! What the panel says of lines of text.
+#![tactic(auto)]
+
 pub mod help;
 pub mod panels;
 pub mod reports;

@@ -1,4 +1,6 @@
 //! What a row means: the definitions that every later contract cites, and the laws about them.
+#![tactic(auto)]
+
 pub mod agreeing;
 pub mod bounds;
 pub mod choosing;

@@ -1,4 +1,6 @@
 //! The run store: joined text, a bit for each wide cell's column, and runs of cells with equal attributes.
+#![tactic(auto)]
+
 pub mod account;
 pub mod ascii;
 mod bits;

@@ -1,4 +1,6 @@
 //! The worked samples for UTF-8: those of rows are proved, and how long a cell's text may be is run.
+#![tactic(auto)]
+
 ghost use Rattle.cells.specs.Kinds.{Kind};
 ghost use Rattle.std.specs.Prelude.{◌≡◌, [], ◌∷◌};
 ghost use Rattle.rows.specs.Edits.{from_text};

@@ -1,4 +1,6 @@
 //! Splitters: which texts are good, and how they fall into pieces.
+#![tactic(auto)]
+
 pub mod ascii;
 pub mod columns;
 pub mod graphemes;

@@ -1,4 +1,6 @@
 //! Stores and grids: what holds the cells of a row, and the calls that it carries out.
+#![tactic(auto)]
+
 pub mod cellat;
 pub mod fill;
 pub mod givens;

@@ -1,4 +1,6 @@
 //! The splitter for UTF-8.
+#![tactic(auto)]
+
 ghost use Rattle.utf8.specs.Utf8.{utf8_splits};
 
 use splitters::splitter::Splitter;

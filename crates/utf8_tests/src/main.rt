@@ -1,5 +1,7 @@
 //! Reads texts as hexadecimal bytes, one to a line, and writes of each whether it is good, and the length and the width of its pieces.
 //! A line that begins with # is a heading.
+#![tactic(auto)]
+
 ghost use Rattle.std.specs.Prelude.{◌<◌};
 
 use splitters::splitter::Splitter;

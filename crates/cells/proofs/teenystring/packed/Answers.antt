@@ -10,4 +10,4 @@ loop-i-init c = sym (ap value (drop_all (length c.args.text.now) c.args.text.now
 pub loop-i-preserved : goal.loop-i-preserved
 loop-i-preserved c =
     packed_more c.args.text.now c.loop-i.i c.loop-i.word c.loop-i-test.true (search rules) c.requires
-    (λ (i : ℕ). let h = c.type-inv.text i in search rules) c.loop-i.invariant
+    (λ (i : ℕ). let h = c.type_inv.text i in search rules) c.loop-i.invariant

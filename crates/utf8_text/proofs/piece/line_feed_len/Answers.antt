@@ -6,8 +6,8 @@ use Rattle.utf8_text.proofs.piece.line_feed_len.Goals as goal
 pub returns-in-10 : goal.returns-in-10
 returns-in-10 c = lf_read c.args.text.now (search rules) (search rules)
 
-pub returns-in-default : goal.returns-in-default
-returns-in-default c =
+pub returns-in_default : goal.returns-in_default
+returns-in_default c =
     let z = get_or_past c.args.text.now 0 0 (search rules) in
     lf_none c.args.text.now (λ (e : get_or c.args.text.now 0 0 ≡ 0x0A). omega arith)
 

@@ -5,15 +5,15 @@ use Rattle.utf8_text.specs.Pieces.{leading_marks, sizes}
 use Rattle.utf8_text.proofs.Points.{read, marks_none, marks_stop, marks_more}
 use Rattle.utf8_text.proofs.piece.marks_len.Goals as goal
 
-pub returns-then-not-is-mark : goal.returns-then-not-is-mark
-returns-then-not-is-mark c =
+pub returns-then-not-is_mark : goal.returns-then-not-is_mark
+returns-then-not-is_mark c =
     let e = ap first_point (sym (take_rest c.args.text.now c.loop-c.at)) ∙ sym c.in-Some.ensures in
-    let k = sym c.if-not-is-mark.ensures in
+    let k = sym c.if-not-is_mark.ensures in
     let s = marks_stop (drop c.loop-c.at c.args.text.now) c.in-Some.c c.in-Some.n e k in
     omega (arith, c.loop-c.invariant.1)
 
-pub overflow-add-at : goal.overflow-add-at
-overflow-add-at c =
+pub overflow_add-at : goal.overflow_add-at
+overflow_add-at c =
     let e = ap first_point (sym (take_rest c.args.text.now c.loop-c.at)) ∙ sym c.in-Some.ensures in
     let r = read (drop c.loop-c.at c.args.text.now) c.in-Some.c c.in-Some.n e in
     let l = length-drop c.loop-c.at c.args.text.now in
@@ -31,13 +31,13 @@ loop-c-preserved c =
     let e = ap first_point (sym (take_rest c.args.text.now c.loop-c.at)) ∙ sym c.in-Some.ensures in
     let r = read (drop c.loop-c.at c.args.text.now) c.in-Some.c c.in-Some.n e in
     let l = length-drop c.loop-c.at c.args.text.now in
-    let k = sym c.if-not-is-mark.ensures in
+    let k = sym c.if-not-is_mark.ensures in
     let m = marks_more (drop c.loop-c.at c.args.text.now) c.in-Some.c c.in-Some.n e k in
     let d = ap (λ x. sizes (leading_marks (points x))) (drop-drop c.in-Some.n c.loop-c.at c.args.text.now) in
     (omega arith, omega (arith, c.loop-c.invariant.1))
 
 pub returns : goal.returns
 returns c =
-    let e = ap first_point (sym (take_rest c.args.text.now c.loop-c.at)) ∙ sym c.in-default.ensures in
+    let e = ap first_point (sym (take_rest c.args.text.now c.loop-c.at)) ∙ sym c.in_default.ensures in
     let s = marks_none (drop c.loop-c.at c.args.text.now) e in
     omega (arith, c.loop-c.invariant.1)

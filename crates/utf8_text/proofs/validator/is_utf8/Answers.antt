@@ -36,17 +36,17 @@ returns-in-Start c =
       meaning = meant c.args.text.now;
     }
 
-pub returns-in-default-state : goal.returns-in-default-state
-returns-in-default-state c =
+pub returns-in_default-state : goal.returns-in_default-state
+returns-in_default-state c =
     record {
       value = end_bad c.args.text.now c.loop-b.b-index c.loop-b.state (omega arith)
-          c.in-default-state.not-Start c.loop-b.invariant;
+          c.in_default-state.not-Start c.loop-b.invariant;
       meaning = meant c.args.text.now;
     }
 
 -- a byte that no state lets pass: one need for each way to the last arm
-pub returns-in-default : goal.returns-in-default
-returns-in-default c =
+pub returns-in_default : goal.returns-in_default
+returns-in_default c =
     let s = stepped c.args.text.now c.loop-b.b-index c.loop-b.state None (omega arith) (search rules) c.loop-b.invariant in
     record { value = s; meaning = meant c.args.text.now }
 

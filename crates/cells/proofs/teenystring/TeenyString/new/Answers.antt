@@ -1,7 +1,7 @@
 use Rattle.std.proofs.Common.{◌≡◌, ℕ, false, List, Ok, Option, sym, ap, ◌∙◌, subst}
 use Rattle.cells.specs.Cleaning.{unclean, clean}
 use Rattle.cells.specs.Refusals.{first_of, verdict}
-use Rattle.cells.specs.Words.{Text, word_refusals, made}
+use Rattle.cells.specs.Words.{word_refusals, made}
 use Rattle.cells.specs.declared.refusal.Refusal.{Refusal}
 use Rattle.cells.proofs.Refused.{clean_is_clean}
 use Rattle.cells.proofs.teenystring.TeenyString.new.Goals as goal
@@ -17,10 +17,10 @@ returns-in-Some c = refused (clean c.args.text.now) c.cleaned-text.result.now c.
 pub pack-requires : goal.pack-requires
 pack-requires c = (
   subst (λ (t : List ℕ). unclean t ≡ false) (sym c.cleaned-text.ensures) (clean_is_clean c.args.text.now),
-  sym c.in-default.ensures,
+  sym c.in_default.ensures,
 )
 
 pub returns : goal.returns
 returns c =
     ap Ok (c.pack.ensures ∙ ap (λ (t : List ℕ). record { text = t; width = c.args.width }) c.cleaned-text.ensures)
-    ∙ refused (clean c.args.text.now) c.cleaned-text.result.now c.args.width _ c.in-default.ensures c.cleaned-text.ensures
+    ∙ refused (clean c.args.text.now) c.cleaned-text.result.now c.args.width _ c.in_default.ensures c.cleaned-text.ensures

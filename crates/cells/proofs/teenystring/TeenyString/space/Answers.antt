@@ -2,9 +2,9 @@ use Rattle.std.proofs.Common.{refl}
 use Rattle.cells.specs.Words.{text_of}
 use Rattle.cells.proofs.teenystring.TeenyString.space.Goals as goal
 
-pub invariant-of-result : goal.invariant-of-result
+pub invariant_of-result : goal.invariant_of-result
 unfolding text_of
-invariant-of-result c = (refl, (refl, (refl, tt)))
+invariant_of-result c = record { laid = refl; clean = refl; narrow = refl }
 
 pub returns : goal.returns
 unfolding text_of

@@ -12,8 +12,8 @@ returns-then-attributes-eq3 c =
     let k : type_bits c.args.attributes ≡ 3 = omega arith in
     ap (λ (b : Bool). verdict (first_of ((b, BadType) ∷ [])) (c.args.attributes, c.args.foreground, c.args.background)) (sym (eq-eqb (type_bits c.args.attributes) 3 k))
 
-pub invariant-of-result : goal.invariant-of-result
-invariant-of-result c = let e = type_and c.args.attributes in (omega arith, tt)
+pub invariant_of-result : goal.invariant_of-result
+invariant_of-result c = let e = type_and c.args.attributes in (omega arith, tt)
 
 pub returns : goal.returns
 returns c =

@@ -10,7 +10,7 @@ returns-in-0 c = let e = type_and c.args.self.now.attributes in let k : 0 ≡ ty
 pub returns-in-1 : goal.returns-in-1
 returns-in-1 c = let e = type_and c.args.self.now.attributes in let k : 1 ≡ type_bits c.args.self.now.attributes = omega arith in ap named k
 
-pub returns-in-default : goal.returns-in-default
-returns-in-default c =
+pub returns-in_default : goal.returns-in_default
+returns-in_default c =
     let e = type_and c.args.self.now.attributes in
     named_rest (type_bits c.args.self.now.attributes) (omega arith) (omega arith)

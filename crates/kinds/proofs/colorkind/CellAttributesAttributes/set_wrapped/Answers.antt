@@ -5,8 +5,8 @@ use Rattle.kinds.proofs.Fields.{reflagged}
 use Rattle.kinds.proofs.colorkind.CellAttributesAttributes.set_wrapped.Goals as goal
 use Rattle.kinds.proofs.colorkind.CellAttributesAttributes.set_wrapped.Goals.{then-on, else-on}
 
-pub invariant-of-self : goal.invariant-of-self
-invariant-of-self c =
+pub invariant_of-self : goal.invariant_of-self
+invariant_of-self c =
     let a = c.args.self.now in
     let fits : a.attributes < 2 ^ 32 = search rules in
     let flag : c.if-on.flag ≡ cond c.args.on (2 ^ 11) 0 =

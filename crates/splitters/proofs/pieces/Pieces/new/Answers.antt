@@ -6,8 +6,8 @@ use Rattle.splitters.proofs.pieces.Pieces.new.Goals as goal
 
 pub returns : goal.returns
 returns g c =
-    let good = sym c.if-not-is-good.ensures in
+    let good = sym c.if-not-is_good.ensures in
     record {
-      answer = ap (λ (b : Bool). verdict (first_of ((not b, NotGood) ∷ [])) (c.args.text.now, 0)) c.if-not-is-good.ensures;
+      answer = ap (λ (b : Bool). verdict (first_of ((not b, NotGood) ∷ [])) (c.args.text.now, 0)) c.if-not-is_good.ensures;
       read = pieces_read g.P.Splitter.splits c.args.text.now good;
     }

@@ -8,8 +8,8 @@ use Rattle.splitters.proofs.pieces.Pieces.next.Goals as goal
 pub returns-then-self : goal.returns-then-self
 returns-then-self g c = record { piece = left_none g.P.Splitter.splits.first c.args.self.now.text.now c.args.self.now.pos c.if-self.true; text = refl }
 
-pub slice-bounds-bytes-end : goal.slice-bounds-bytes-end
-slice-bounds-bytes-end g c =
+pub slice_bounds-bytes-end : goal.slice_bounds-bytes-end
+slice_bounds-bytes-end g c =
     let s = step_ends g.P.Splitter.splits.first c.args.self.now.text.now c.args.self.now.pos c.if-self.false in
     search rules
 
@@ -24,14 +24,14 @@ taken f t at end control h e u =
     ∙ ap (λ (b : Bool). record { at = at; bytes = take (end - at) (drop at t); control = b } ∷ left f t (at + step f (drop at t))) (sym u)
     ∙ ap (λ (n : ℕ). record { at = at; bytes = take (end - at) (drop at t); control = control } ∷ left f t n) (sym e)
 
-pub returns-then-is-unclean : goal.returns-then-is-unclean
-returns-then-is-unclean g c = record {
-  piece = taken g.P.Splitter.splits.first c.args.self.now.text.now c.args.self.now.pos c.piece-end-end.result true c.if-self.false c.piece-end-end.ensures c.if-is-unclean.ensures.value;
+pub returns-then-is_unclean : goal.returns-then-is_unclean
+returns-then-is_unclean g c = record {
+  piece = taken g.P.Splitter.splits.first c.args.self.now.text.now c.args.self.now.pos c.piece_end-end.result true c.if-self.false c.piece_end-end.ensures c.if-is_unclean.ensures.value;
   text = refl;
 }
 
-pub returns-else-is-unclean : goal.returns-else-is-unclean
-returns-else-is-unclean g c = record {
-  piece = taken g.P.Splitter.splits.first c.args.self.now.text.now c.args.self.now.pos c.piece-end-end.result false c.if-self.false c.piece-end-end.ensures c.if-is-unclean.ensures.value;
+pub returns-else-is_unclean : goal.returns-else-is_unclean
+returns-else-is_unclean g c = record {
+  piece = taken g.P.Splitter.splits.first c.args.self.now.text.now c.args.self.now.pos c.piece_end-end.result false c.if-self.false c.piece_end-end.ensures c.if-is_unclean.ensures.value;
   text = refl;
 }
