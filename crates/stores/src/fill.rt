@@ -23,7 +23,7 @@ pub trait Fill: Store {
     /// Empties the row, sets its number, and appends one cleaned cell for each piece: 1, 3 or 6.
     fn from_text(&mut self, text: &[u8], attrs: &Self::Attr, seqno: u64) -> Result<(), Refusal>
         ensures { Does Self.Store.row Self.Store.number
-            (λ _. from_text Fill.Split.Splitter.splits (room (Self.Store.row self.old).sizes) text.now attrs.now seqno)
+            (λ _. from_text Self.Split.splits (room (Self.Store.row self.old).sizes) text.now attrs.now seqno)
             self.old result self.new };
 
     /// Adds a cell that another row holds: 11 where it does not fit.

@@ -17,7 +17,7 @@ pub trait Grid: Fill {
     /// Sets the cell in column x: 1, 2 or 6.
     fn set_cell(&mut self, x: usize, c: &Cell<Self::Attr>, seqno: u64) -> Result<(), Refusal>
         ensures { Does Self.Store.row Self.Store.number
-            (set_cell Self.Attr.Attributes.kind Split-as-Splitter.splits (Self.Fill.room (Self.Store.row self.old).sizes)
+            (set_cell Self.Attr.Attributes.kind Self.Split.splits (Self.Fill.room (Self.Store.row self.old).sizes)
             x (meaning c.now) seqno)
             self.old result self.new };
 
@@ -30,7 +30,7 @@ pub trait Grid: Fill {
         seqno: u64,
     ) -> Result<(), Refusal>
         ensures { Does Self.Store.row Self.Store.number
-            (insert_cell Self.Attr.Attributes.kind Split-as-Splitter.splits (Self.Fill.room (Self.Store.row self.old).sizes)
+            (insert_cell Self.Attr.Attributes.kind Self.Split.splits (Self.Fill.room (Self.Store.row self.old).sizes)
             x (meaning c.now) margin seqno)
             self.old result self.new };
 

@@ -12,9 +12,9 @@ loop-i-preserved g c =
     let t = (meaning c.args.c.now).text in
     let i = c.loop-i.i in
     let l = text_length c.args.c.now.text.word in
-    take_more_set c.loop-i.out i c.byte-at.result (omega arith)
-    ∙ ap (λ v. v ++ (c.byte-at.result ∷ [])) c.loop-i.invariant
-    ∙ ap (λ b. take i t ++ (b ∷ [])) c.byte-at.ensures
+    take_more_set c.loop-i.out i c.byte_at.result (omega arith)
+    ∙ ap (λ v. v ++ (c.byte_at.result ∷ [])) c.loop-i.invariant
+    ∙ ap (λ b. take i t ++ (b ∷ [])) c.byte_at.ensures
     ∙ sym (take_more t i 0 (omega arith))
 
 pub returns : goal.returns

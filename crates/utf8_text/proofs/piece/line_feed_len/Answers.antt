@@ -11,5 +11,5 @@ returns-in_default c =
     let z = get_or_past c.args.text.now 0 0 (search rules) in
     lf_none c.args.text.now (λ (e : get_or c.args.text.now 0 0 ≡ 0x0A). omega arith)
 
-pub returns-in-default·2 : goal.returns-in-default·2
-returns-in-default·2 c = lf_none c.args.text.now (λ (e : get_or c.args.text.now 0 0 ≡ 0x0A). search rules)
+pub returns-in_default-2 : goal.returns-in_default-2
+returns-in_default-2 c = lf_none c.args.text.now (λ (e : get_or c.args.text.now 0 0 ≡ 0x0A). search rules)

@@ -50,77 +50,77 @@ returns-in_default c =
     let s = stepped c.args.text.now c.loop-b.b-index c.loop-b.state None (omega arith) (search rules) c.loop-b.invariant in
     record { value = s; meaning = meant c.args.text.now }
 
-pub returns-in-default·2 : goal.returns-in-default·2
-returns-in-default·2 c =
+pub returns-in_default-2 : goal.returns-in_default-2
+returns-in_default-2 c =
     let s = stepped c.args.text.now c.loop-b.b-index c.loop-b.state None (omega arith) (search rules) c.loop-b.invariant in
     record { value = s; meaning = meant c.args.text.now }
 
-pub returns-in-default·3 : goal.returns-in-default·3
-returns-in-default·3 c =
+pub returns-in_default-3 : goal.returns-in_default-3
+returns-in_default-3 c =
     let s = stepped c.args.text.now c.loop-b.b-index c.loop-b.state None (omega arith) (search rules) c.loop-b.invariant in
     record { value = s; meaning = meant c.args.text.now }
 
-pub returns-in-default·4 : goal.returns-in-default·4
-returns-in-default·4 c =
+pub returns-in_default-4 : goal.returns-in_default-4
+returns-in_default-4 c =
     let s = stepped c.args.text.now c.loop-b.b-index c.loop-b.state None (omega arith) (search rules) c.loop-b.invariant in
     record { value = s; meaning = meant c.args.text.now }
 
-pub returns-in-default·5 : goal.returns-in-default·5
-returns-in-default·5 c =
+pub returns-in_default-5 : goal.returns-in_default-5
+returns-in_default-5 c =
     let s = stepped c.args.text.now c.loop-b.b-index c.loop-b.state None (omega arith) (search rules) c.loop-b.invariant in
     record { value = s; meaning = meant c.args.text.now }
 
-pub returns-in-default·6 : goal.returns-in-default·6
-returns-in-default·6 c =
+pub returns-in_default-6 : goal.returns-in_default-6
+returns-in_default-6 c =
     let s = stepped c.args.text.now c.loop-b.b-index c.loop-b.state None (omega arith) (search rules) c.loop-b.invariant in
     record { value = s; meaning = meant c.args.text.now }
 
-pub returns-in-default·7 : goal.returns-in-default·7
-returns-in-default·7 c =
+pub returns-in_default-7 : goal.returns-in_default-7
+returns-in_default-7 c =
     let s = stepped c.args.text.now c.loop-b.b-index c.loop-b.state None (omega arith) (search rules) c.loop-b.invariant in
     record { value = s; meaning = meant c.args.text.now }
 
-pub returns-in-default·8 : goal.returns-in-default·8
-returns-in-default·8 c =
+pub returns-in_default-8 : goal.returns-in_default-8
+returns-in_default-8 c =
     let s = stepped c.args.text.now c.loop-b.b-index c.loop-b.state None (omega arith) (search rules) c.loop-b.invariant in
     record { value = s; meaning = meant c.args.text.now }
 
-pub returns-in-default·9 : goal.returns-in-default·9
-returns-in-default·9 c =
+pub returns-in_default-9 : goal.returns-in_default-9
+returns-in_default-9 c =
     let s = stepped c.args.text.now c.loop-b.b-index c.loop-b.state None (omega arith) (search rules) c.loop-b.invariant in
     record { value = s; meaning = meant c.args.text.now }
 
-pub returns-in-default·10 : goal.returns-in-default·10
-returns-in-default·10 c =
+pub returns-in_default-10 : goal.returns-in_default-10
+returns-in_default-10 c =
     let s = stepped c.args.text.now c.loop-b.b-index c.loop-b.state None (omega arith) (search rules) c.loop-b.invariant in
     record { value = s; meaning = meant c.args.text.now }
 
-pub returns-in-default·11 : goal.returns-in-default·11
-returns-in-default·11 c =
+pub returns-in_default-11 : goal.returns-in_default-11
+returns-in_default-11 c =
     let s = stepped c.args.text.now c.loop-b.b-index c.loop-b.state None (omega arith) (search rules) c.loop-b.invariant in
     record { value = s; meaning = meant c.args.text.now }
 
-pub returns-in-default·12 : goal.returns-in-default·12
-returns-in-default·12 c =
+pub returns-in_default-12 : goal.returns-in_default-12
+returns-in_default-12 c =
     let s = stepped c.args.text.now c.loop-b.b-index c.loop-b.state None (omega arith) (search rules) c.loop-b.invariant in
     record { value = s; meaning = meant c.args.text.now }
 
-pub returns-in-default·13 : goal.returns-in-default·13
-returns-in-default·13 c =
+pub returns-in_default-13 : goal.returns-in_default-13
+returns-in_default-13 c =
     let s = stepped c.args.text.now c.loop-b.b-index c.loop-b.state None (omega arith) (search rules) c.loop-b.invariant in
     record { value = s; meaning = meant c.args.text.now }
 
-pub returns-in-default·14 : goal.returns-in-default·14
-returns-in-default·14 c =
+pub returns-in_default-14 : goal.returns-in_default-14
+returns-in_default-14 c =
     let s = stepped c.args.text.now c.loop-b.b-index c.loop-b.state None (omega arith) (search rules) c.loop-b.invariant in
     record { value = s; meaning = meant c.args.text.now }
 
-pub returns-in-default·15 : goal.returns-in-default·15
-returns-in-default·15 c =
+pub returns-in_default-15 : goal.returns-in_default-15
+returns-in_default-15 c =
     let s = stepped c.args.text.now c.loop-b.b-index c.loop-b.state None (omega arith) (search rules) c.loop-b.invariant in
     record { value = s; meaning = meant c.args.text.now }
 
-pub returns-in-default·16 : goal.returns-in-default·16
-returns-in-default·16 c =
+pub returns-in_default-16 : goal.returns-in_default-16
+returns-in_default-16 c =
     let s = stepped c.args.text.now c.loop-b.b-index c.loop-b.state None (omega arith) (search rules) c.loop-b.invariant in
     record { value = s; meaning = meant c.args.text.now }

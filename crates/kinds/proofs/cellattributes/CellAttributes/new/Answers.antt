@@ -13,7 +13,7 @@ returns-then-attributes-eq3 c =
     ap (λ (b : Bool). verdict (first_of ((b, BadType) ∷ [])) (c.args.attributes, c.args.foreground, c.args.background)) (sym (eq-eqb (type_bits c.args.attributes) 3 k))
 
 pub invariant_of-result : goal.invariant_of-result
-invariant_of-result c = let e = type_and c.args.attributes in (omega arith, tt)
+invariant_of-result c = let e = type_and c.args.attributes in record { typed = omega arith }
 
 pub returns : goal.returns
 returns c =

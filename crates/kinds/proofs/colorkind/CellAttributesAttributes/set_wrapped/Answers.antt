@@ -11,7 +11,7 @@ invariant_of-self c =
     let fits : a.attributes < 2 ^ 32 = search rules in
     let flag : c.if-on.flag ≡ cond c.args.on (2 ^ 11) 0 =
     elim c.if-on.branch [ then-on w ↦ search rules | else-on w ↦ search rules ] in
-    (subst (λ (n : ℕ). type_bits n < 3) (sym (reflagged a.attributes c.args.on c.if-on.flag fits flag)) (flagged a c.args.on).typed, tt)
+    record { typed = subst (λ (n : ℕ). type_bits n < 3) (sym (reflagged a.attributes c.args.on c.if-on.flag fits flag)) (flagged a c.args.on).typed }
 
 pub returns : goal.returns
 returns c =
