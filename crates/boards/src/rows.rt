@@ -20,7 +20,7 @@ pub fn set_line<G: Grid>(
     seqno: u64,
     pruned: u64,
 ) -> Result<(), Refusal>
-    ensures { Does G.Store.row G.Store.number (λ s. lined G.Attr.Attributes.kind Split-as-Splitter.splits (G.Fill.room (G.Store.row row.old).sizes) text.now attrs.now seqno pruned) row.old result row.new }
+    ensures { Does G.Store.row G.Store.number (λ s. lined G.Attr.Attributes.kind G.Split.splits (G.Fill.room (G.Store.row row.old).sizes) text.now attrs.now seqno pruned) row.old result row.new }
 {
     row.from_text(text, attrs, seqno)?;
     row.prune_trailing_blanks(pruned);
@@ -35,7 +35,7 @@ pub fn put_line<G: Grid>(
     seqno: u64,
     pruned: u64,
 ) -> Result<Measure, Refusal>
-    ensures { Boarded (come_to Split-as-Splitter.splits (G.Fill.room (G.Store.row row.old).sizes) attrs.now line.now) (boarded G.Attr.Attributes.kind Split-as-Splitter.splits (G.Fill.room (G.Store.row row.old).sizes) attrs.now line.now seqno pruned) (panel_of G.Store.row G.Store.number row.old) result (panel_of G.Store.row G.Store.number row.new) }
+    ensures { Boarded (come_to G.Split.splits (G.Fill.room (G.Store.row row.old).sizes) attrs.now line.now) (boarded G.Attr.Attributes.kind G.Split.splits (G.Fill.room (G.Store.row row.old).sizes) attrs.now line.now seqno pruned) (panel_of G.Store.row G.Store.number row.old) result (panel_of G.Store.row G.Store.number row.new) }
 {
     let m = measure::<G::Split>(line)?;
     set_line(row, line, attrs, seqno, pruned)?;

@@ -59,7 +59,7 @@ impl<A: Attributes, P: Splitter> Store for VecStorage<A, P> {
 
     ghost sized = { λ s. sized_shown s.cells.items };
 
-    ghost packer = { first_of (Prim.search rules, Prim.grind (arith, Self.row.coded.inj)) };
+    ghost packer = { Prim.search rules };
 
     fn len(&self) -> usize {
         self.cells.len()

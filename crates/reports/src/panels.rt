@@ -39,7 +39,7 @@ pub fn report<G: Grid>(
     attrs: &G::Attr,
     text: &[u8],
 ) -> io::Result<Account>
-    ensures { IfOk result (λ a. a ≡ account_of (map (come_to Split-as-Splitter.splits (G.Fill.room (G.Store.row row.old).sizes) attrs.now) (lines_of text.now))) }
+    ensures { IfOk result (λ a. a ≡ account_of (map (come_to G.Split.splits (G.Fill.room (G.Store.row row.old).sizes) attrs.now) (lines_of text.now))) }
 {
     let mut account = Account::new();
     let mut lines = Lines::new(text);

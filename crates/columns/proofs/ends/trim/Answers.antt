@@ -15,10 +15,10 @@ pub loop-cols-preserved : goal.loop-cols-preserved
 loop-cols-preserved g c =
     let k = g.A.Attributes.kind in
     let xs = c.loop-cols.cols.items in
-    let m = c.last-cell-last.result.column in
-    let d = c.last-cell-last.result.cell in
+    let m = c.last_cell-last.result.column in
+    let d = c.last_cell-last.result.cell in
     let w = c.loop-cols.invariant.0 in
-    let h = c.last-cell-last.ensures in
+    let h = c.last_cell-last.ensures in
     let n = length_cols xs in
     let t = ap columns c.truncate.ensures.items ∙ cols_take m xs in (
       whole_as t (last_front (columns xs) m (meaning d) (sized_cell d) w h),
@@ -26,22 +26,22 @@ loop-cols-preserved g c =
       omega arith,
       ap (λ v. up_to_last (not_plain k) (shown v)) t
           ∙ sym (ap (up_to_last (not_plain k)) (last_shown (columns xs) m (meaning d) (sized_cell d) w h)
-          ∙ trimmed_yes (not_plain k) (meaning d) (shown (take m (columns xs))) (ap not (sym c.if-not-is-plain-blank.ensures)))
+          ∙ trimmed_yes (not_plain k) (meaning d) (shown (take m (columns xs))) (ap not (sym c.if-not-is_plain_blank.ensures)))
           ∙ c.loop-cols.invariant.3,
     )
 
-pub returns-then-not-is-plain-blank : goal.returns-then-not-is-plain-blank
-returns-then-not-is-plain-blank g c =
+pub returns-then-not-is_plain_blank : goal.returns-then-not-is_plain_blank
+returns-then-not-is_plain_blank g c =
     let k = g.A.Attributes.kind in
     let xs = c.loop-cols.cols.items in
-    let m = c.last-cell-last.result.column in
-    let d = c.last-cell-last.result.cell in
+    let m = c.last_cell-last.result.column in
+    let d = c.last_cell-last.result.cell in
     let w = c.loop-cols.invariant.0 in
-    let e = last_shown (columns xs) m (meaning d) (sized_cell d) w c.last-cell-last.ensures in
+    let e = last_shown (columns xs) m (meaning d) (sized_cell d) w c.last_cell-last.ensures in
     record {
       whole = w;
       cells =
-          e ∙ sym (trimmed_no (not_plain k) (meaning d) (shown (take m (columns xs))) (ap not (sym c.if-not-is-plain-blank.ensures)))
+          e ∙ sym (trimmed_no (not_plain k) (meaning d) (shown (take m (columns xs))) (ap not (sym c.if-not-is_plain_blank.ensures)))
           ∙ ap (up_to_last (not_plain k)) (sym e) ∙ c.loop-cols.invariant.3;
       len = c.loop-cols.invariant.2;
       capacity = c.loop-cols.invariant.1;
@@ -61,6 +61,6 @@ returns g c =
 
 pub loop-cols-smaller : goal.loop-cols-smaller
 loop-cols-smaller g c =
-    let h = c.last-cell-last.ensures.within in
+    let h = c.last_cell-last.ensures.within in
     let n = length_cols c.loop-cols.cols.items in
     omega arith

@@ -8,20 +8,20 @@ use Rattle.columns.proofs.inserts.insert_refusal.Goals as goal
 
 pub returns-then-passes : goal.returns-then-passes
 returns-then-passes g c =
-    let f = ltb-true c.args.limit (c.room-after-after.result + c.width.result) (sym c.if-passes.ensures) in
-    sym (insert_past g.A.Attributes.kind g.P.Splitter.splits (room_of c.args.limit) c.args.x (meaning c.args.c.now) c.args.margin (columns c.args.cols.now.items) (sym c.in-default.ensures) (omega arith) (omega arith))
+    let f = ltb-true c.args.limit (c.room_after-after.result + c.width.result) (sym c.if-passes.ensures) in
+    sym (insert_past g.A.Attributes.kind g.P.Splitter.splits (room_of c.args.limit) c.args.x (meaning c.args.c.now) c.args.margin (columns c.args.cols.now.items) (sym c.in_default.ensures) (omega arith) (omega arith))
 
-pub returns-then-parts-wide : goal.returns-then-parts-wide
-returns-then-parts-wide g c =
-    let f = ltb-false c.args.limit (c.room-after-after.result + c.width.result) (sym c.if-passes.ensures) in
-    ap (λ b. cond b (Some PartsWide) None) c.if-parts-wide.ensures
-    ∙ sym (insert_last g.A.Attributes.kind g.P.Splitter.splits (room_of c.args.limit) c.args.x (meaning c.args.c.now) c.args.margin (columns c.args.cols.now.items) (sym c.in-default.ensures) (omega arith) (omega arith))
+pub returns-then-parts_wide : goal.returns-then-parts_wide
+returns-then-parts_wide g c =
+    let f = ltb-false c.args.limit (c.room_after-after.result + c.width.result) (sym c.if-passes.ensures) in
+    ap (λ b. cond b (Some PartsWide) None) c.if-parts_wide.ensures
+    ∙ sym (insert_last g.A.Attributes.kind g.P.Splitter.splits (room_of c.args.limit) c.args.x (meaning c.args.c.now) c.args.margin (columns c.args.cols.now.items) (sym c.in_default.ensures) (omega arith) (omega arith))
 
 pub returns : goal.returns
 returns g c =
-    let f = ltb-false c.args.limit (c.room-after-after.result + c.width.result) (sym c.if-passes.ensures) in
-    ap (λ b. cond b (Some PartsWide) None) c.if-parts-wide.ensures
-    ∙ sym (insert_last g.A.Attributes.kind g.P.Splitter.splits (room_of c.args.limit) c.args.x (meaning c.args.c.now) c.args.margin (columns c.args.cols.now.items) (sym c.in-default.ensures) (omega arith) (omega arith))
+    let f = ltb-false c.args.limit (c.room_after-after.result + c.width.result) (sym c.if-passes.ensures) in
+    ap (λ b. cond b (Some PartsWide) None) c.if-parts_wide.ensures
+    ∙ sym (insert_last g.A.Attributes.kind g.P.Splitter.splits (room_of c.args.limit) c.args.x (meaning c.args.c.now) c.args.margin (columns c.args.cols.now.items) (sym c.in_default.ensures) (omega arith) (omega arith))
 
 pub returns-in-Some : goal.returns-in-Some
 returns-in-Some g c =

@@ -7,27 +7,27 @@ use Rattle.columns.proofs.inserts.parts_wide.Goals as goal
 pub returns-then-len-margin : goal.returns-then-len-margin
 returns-then-len-margin g c =
     let n = length_cols c.args.cols.now.items in
-    c.is-second.ensures ∙ parts_short g.A.Attributes.kind c.args.x c.args.margin (columns c.args.cols.now.items) (omega arith)
+    c.is_second.ensures ∙ parts_short g.A.Attributes.kind c.args.x c.args.margin (columns c.args.cols.now.items) (omega arith)
 
-pub returns-then-is-second : goal.returns-then-is-second
-returns-then-is-second g c =
+pub returns-then-is_second : goal.returns-then-is_second
+returns-then-is_second g c =
     let n = length_cols c.args.cols.now.items in
-    parts_first g.A.Attributes.kind c.args.x c.args.margin (columns c.args.cols.now.items) (omega arith) (sym c.if-is-second.ensures)
+    parts_first g.A.Attributes.kind c.args.x c.args.margin (columns c.args.cols.now.items) (omega arith) (sym c.if-is_second.ensures)
 
 pub returns-then-x-margin : goal.returns-then-x-margin
 returns-then-x-margin g c =
     let n = length_cols c.args.cols.now.items in
-    c.is-second-then-x-margin.ensures
-    ∙ parts_below g.A.Attributes.kind c.args.x c.args.margin (columns c.args.cols.now.items) (omega arith) (sym c.if-is-second.ensures) (omega arith)
+    c.is_second-then-x-margin.ensures
+    ∙ parts_below g.A.Attributes.kind c.args.x c.args.margin (columns c.args.cols.now.items) (omega arith) (sym c.if-is_second.ensures) (omega arith)
 
 pub returns : goal.returns
 returns g c =
     let n = length_cols c.args.cols.now.items in
-    c.is-second-3.ensures
-    ∙ parts_above g.A.Attributes.kind c.args.x c.args.margin (columns c.args.cols.now.items) (omega arith) (omega arith) (sym c.if-is-second.ensures) (omega arith)
+    c.is_second-3.ensures
+    ∙ parts_above g.A.Attributes.kind c.args.x c.args.margin (columns c.args.cols.now.items) (omega arith) (omega arith) (sym c.if-is_second.ensures) (omega arith)
 
 pub returns-then-len-x : goal.returns-then-len-x
 returns-then-len-x g c =
     let n = length_cols c.args.cols.now.items in
     sym (inside_past (c.args.x + 1) (columns c.args.cols.now.items) (omega arith))
-    ∙ parts_above g.A.Attributes.kind c.args.x c.args.margin (columns c.args.cols.now.items) (omega arith) (omega arith) (sym c.if-is-second.ensures) (omega arith)
+    ∙ parts_above g.A.Attributes.kind c.args.x c.args.margin (columns c.args.cols.now.items) (omega arith) (omega arith) (sym c.if-is_second.ensures) (omega arith)

@@ -16,5 +16,5 @@ returns g c =
     let xs = c.args.cols.now.items in
     let n = length_cols xs in
     let d = c.index.result.now in
-    c.is-wide.ensures
+    c.is_wide.ensures
     ∙ sym (inside_read c.args.x (columns xs) (meaning d) (omega arith) (omega arith) (cols_read xs _ d (omega arith) c.index.ensures))

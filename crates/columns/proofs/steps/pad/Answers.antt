@@ -18,12 +18,12 @@ loop-cols-preserved g c =
     let xs = columns c.args.cols.now.items in
     let ys = c.loop-cols.cols.items in
     let n = length_cols c.args.cols.now.items in (
-      c.push-reserved.ensures.capacity ∙ c.loop-cols.invariant.0,
+      c.push_reserved.ensures.capacity ∙ c.loop-cols.invariant.0,
       omega arith,
       omega arith,
-      ap columns c.push-reserved.ensures.items ∙ cols_push ys c.blank.result ∙ ap (λ v. columns ys ++ (v ∷ [])) c.blank.ensures
+      ap columns c.push_reserved.ensures.items ∙ cols_push ys c.blank.result ∙ ap (λ v. columns ys ++ (v ∷ [])) c.blank.ensures
           ∙ padded_push k c.loop-cols.cols.len xs (columns ys) (omega arith) c.loop-cols.invariant.3
-          ∙ sym (ap (λ j. padded k j xs) c.push-reserved.ensures.len),
+          ∙ sym (ap (λ j. padded k j xs) c.push_reserved.ensures.len),
     )
 
 pub returns : goal.returns

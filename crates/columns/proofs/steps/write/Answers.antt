@@ -9,7 +9,7 @@ returns-then-x-len g c =
 
 pub returns-else-x-len : goal.returns-else-x-len
 returns-else-x-len g c = record {
-  items = c.push-reserved.ensures.items ∙ push_at c.args.cols.now.items c.args.x c.args.c (omega arith);
+  items = c.push_reserved.ensures.items ∙ push_at c.args.cols.now.items c.args.x c.args.c (omega arith);
   len = search rules;
   capacity = search rules;
 }

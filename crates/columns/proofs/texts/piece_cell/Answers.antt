@@ -28,10 +28,10 @@ module _ {A : Type 0} (p : Splits) (t : List ℕ) (i n m w : ℕ) (a : A) (l : i
 
 pub returns-in-Ok : goal.returns-in-Ok
 returns-in-Ok g c =
-    spelt g.P.Splitter.splits c.args.text.now c.args.at c.args.n (c.args.at + c.args.n - c.args.at) c.width-at.result c.args.attrs.now
-    c.requires.within c.requires.short c.requires.good c.requires.one (omega arith) c.width-at.ensures _ c.in-Ok.ensures
+    spelt g.P.Splitter.splits c.args.text.now c.args.at c.args.n (c.args.at + c.args.n - c.args.at) c.width_at.result c.args.attrs.now
+    c.requires.within c.requires.short c.requires.good c.requires.one (omega arith) c.width_at.ensures _ c.in-Ok.ensures
 
 pub returns-in-Err : goal.returns-in-Err
 returns-in-Err g c =
-    absurd (never g.P.Splitter.splits c.args.text.now c.args.at c.args.n (c.args.at + c.args.n - c.args.at) c.width-at.result c.args.attrs.now
-    c.requires.within c.requires.short c.requires.good c.requires.one (omega arith) c.width-at.ensures _ c.in-Err.ensures)
+    absurd (never g.P.Splitter.splits c.args.text.now c.args.at c.args.n (c.args.at + c.args.n - c.args.at) c.width_at.result c.args.attrs.now
+    c.requires.within c.requires.short c.requires.good c.requires.one (omega arith) c.width_at.ensures _ c.in-Err.ensures)

@@ -7,26 +7,26 @@ use Rattle.columns.specs.Cols.{columns}
 use Rattle.columns.proofs.Cuts.{next_good, next_span, next_columns, none_long, piece_good, piece_one, pieces_all}
 use Rattle.columns.proofs.texts.push_text.Goals as goal
 
-pub piece-cell-requires : goal.piece-cell-requires
-piece-cell-requires g c =
+pub piece_cell-requires : goal.piece_cell-requires
+piece_cell-requires g c =
     let p = g.P.Splitter.splits in
     let t = c.args.text.now in
     let i = c.loop-at.at in
-    let n = c.first-at-n.result in
+    let n = c.first_at-n.result in
     let gd = c.loop-at.invariant.1 in
-    let e = c.first-at-n.ensures.is in
+    let e = c.first_at-n.ensures.is in
     record {
-      within = c.first-at-n.ensures.within;
+      within = c.first_at-n.ensures.within;
       short = (none_long p t i n (omega arith) gd e c.loop-at.invariant.2).0;
       good = piece_good p t i n (omega arith) gd e;
       one = piece_one p t i n (omega arith) gd e;
     }
 
-pub push-cell-requires : goal.push-cell-requires
-push-cell-requires g c =
+pub push_cell-requires : goal.push_cell-requires
+push_cell-requires g c =
     let p = g.P.Splitter.splits in
-    let e = next_span p c.args.text.now c.loop-at.at c.first-at-n.result (omega arith) c.loop-at.invariant.1 c.first-at-n.ensures.is c.args.attrs.now in
-    let w = ap (λ d. d.width) c.piece-cell.ensures in
+    let e = next_span p c.args.text.now c.loop-at.at c.first_at-n.result (omega arith) c.loop-at.invariant.1 c.first_at-n.ensures.is c.args.attrs.now in
+    let w = ap (λ d. d.width) c.piece_cell.ensures in
     omega (arith, c.loop-at.invariant.4, c.requires.fits)
 
 pub loop-at-preserved : goal.loop-at-preserved
@@ -34,20 +34,20 @@ loop-at-preserved g c =
     let p = g.P.Splitter.splits in
     let t = c.args.text.now in
     let i = c.loop-at.at in
-    let n = c.first-at-n.result in
+    let n = c.first_at-n.result in
     let a = c.args.attrs.now in
     let gd = c.loop-at.invariant.1 in
-    let is = c.first-at-n.ensures.is in
+    let is = c.first_at-n.ensures.is in
     let e = next_columns p t i n (omega arith) gd is a in
     let s = next_span p t i n (omega arith) gd is a in
-    let w = ap (λ d. d.width) c.piece-cell.ensures in
+    let w = ap (λ d. d.width) c.piece_cell.ensures in
     let r = spread (cells_of p a (drop (i + n) t)) in (
-      c.first-at-n.ensures.within,
+      c.first_at-n.ensures.within,
       next_good p t i n (omega arith) gd is,
       (none_long p t i n (omega arith) gd is c.loop-at.invariant.2).1,
-      c.push-cell.ensures.capacity ∙ c.loop-at.invariant.3,
+      c.push_cell.ensures.capacity ∙ c.loop-at.invariant.3,
       omega (arith, c.loop-at.invariant.4),
-      ap (λ v. v ++ r) (c.push-cell.ensures.row ∙ ap (λ v. columns c.loop-at.cols.items ++ columns_of v) c.piece-cell.ensures)
+      ap (λ v. v ++ r) (c.push_cell.ensures.row ∙ ap (λ v. columns c.loop-at.cols.items ++ columns_of v) c.piece_cell.ensures)
           ∙ append_assoc (columns c.loop-at.cols.items) (columns_of (cell_of p a (take n (drop i t)))) r
           ∙ ap (λ v. columns c.loop-at.cols.items ++ v) (sym e) ∙ c.loop-at.invariant.5,
     )

@@ -10,7 +10,7 @@ returns-then-used-limit g c =
     let p = g.P.Splitter.splits in
     let a = c.args.attrs.now in
     let t = c.args.text.now in
-    let e = next_span p t c.loop-at.at c.first-at-n.result (omega arith) c.loop-at.invariant.1 c.first-at-n.ensures.is a in
+    let e = next_span p t c.loop-at.at c.first_at-n.result (omega arith) c.loop-at.invariant.1 c.first_at-n.ensures.is a in
     sym (lt-ltb c.args.limit (span (cells_of p a t)) (omega (arith, c.loop-at.invariant.3)))
 
 pub loop-at-preserved : goal.loop-at-preserved
@@ -18,10 +18,10 @@ loop-at-preserved g c =
     let p = g.P.Splitter.splits in
     let t = c.args.text.now in
     let i = c.loop-at.at in
-    let n = c.first-at-n.result in
-    let e = next_span p t i n (omega arith) c.loop-at.invariant.1 c.first-at-n.ensures.is c.args.attrs.now in (
-      c.first-at-n.ensures.within,
-      next_good p t i n (omega arith) c.loop-at.invariant.1 c.first-at-n.ensures.is,
+    let n = c.first_at-n.result in
+    let e = next_span p t i n (omega arith) c.loop-at.invariant.1 c.first_at-n.ensures.is c.args.attrs.now in (
+      c.first_at-n.ensures.within,
+      next_good p t i n (omega arith) c.loop-at.invariant.1 c.first_at-n.ensures.is,
       omega arith,
       omega (arith, c.loop-at.invariant.3),
     )

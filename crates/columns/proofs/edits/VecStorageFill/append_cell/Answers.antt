@@ -25,14 +25,19 @@ returns-then-passes g c =
     refused (append_cell (grid_rule (room_of s.limit)) (meaning d) (state p)) p Full
     (room_none (room_of s.limit) (shown (columns xs)) (meaning d) (omega arith))
 
-pub invariant-of-self : goal.invariant-of-self
-invariant-of-self g c =
+pub invariant_of-self : goal.invariant_of-self
+invariant_of-self g c =
     let s = c.args.self.now in
     let xs = s.cells.items in
     let d = c.args.c.now in
     let f = ltb-false s.limit (c.len.result + c.width.result) (sym c.if-passes.ensures) in
     let w = whole_of g.row.A.coded xs s.whole in
-    (omega arith, (s.most, (omega arith, (∣ whole_as c.push-cell.ensures.row (whole_append (columns xs) (columns_of (meaning d)) w (whole_columns (meaning d))) ∣₁, tt))))
+    record {
+      room = omega arith;
+      most = s.most;
+      within = omega arith;
+      whole = ∣ whole_as c.push_cell.ensures.row (whole_append (columns xs) (columns_of (meaning d)) w (whole_columns (meaning d))) ∣₁;
+    }
 
 pub returns : goal.returns
 returns g c =
@@ -43,7 +48,7 @@ returns g c =
     let w = whole_of g.row.A.coded xs s.whole in
     let n = span_cols xs w in
     let f = ltb-false s.limit (c.len.result + c.width.result) (sym c.if-passes.ensures) in
-    carried (append_cell (grid_rule (room_of s.limit)) (meaning d) (state p)) p (panel c.push-cell.new.cols.items s.seqno s.limit)
+    carried (append_cell (grid_rule (room_of s.limit)) (meaning d) (state p)) p (panel c.push_cell.new.cols.items s.seqno s.limit)
     (room_left (room_of s.limit) (shown (columns xs)) (meaning d) (omega arith))
-    (ap shown c.push-cell.ensures.row ∙ shown_append (columns xs) (columns_of (meaning d)) w ∙ ap (λ v. shown (columns xs) ++ v) (shown_one (meaning d)))
+    (ap shown c.push_cell.ensures.row ∙ shown_append (columns xs) (columns_of (meaning d)) w ∙ ap (λ v. shown (columns xs) ++ v) (shown_one (meaning d)))
     refl refl

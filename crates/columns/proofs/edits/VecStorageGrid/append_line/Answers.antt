@@ -23,14 +23,19 @@ returns-then-passes g c =
     refused (append_line (room_of s.limit) more c.args.seqno (state p)) p PastCapacity
     (hit (ltb s.limit (span (shown (columns xs)) + span more)) PastCapacity [] (lt-ltb s.limit (span (shown (columns xs)) + span more) (omega arith)))
 
-pub invariant-of-self : goal.invariant-of-self
-invariant-of-self g c =
+pub invariant_of-self : goal.invariant_of-self
+invariant_of-self g c =
     let s = c.args.self.now in
     let xs = s.cells.items in
     let more = (g.T.Store.row c.args.other.now).cells in
     let f = ltb-false s.limit (c.len.result + c.len-2.result) (sym c.if-passes.ensures) in
     let w = whole_of g.row.A.coded xs s.whole in
-    (omega arith, (s.most, (omega arith, (∣ whole_as c.push-cells.ensures.row (whole_append (columns xs) (spread more) w (whole_spread more)) ∣₁, tt))))
+    record {
+      room = omega arith;
+      most = s.most;
+      within = omega arith;
+      whole = ∣ whole_as c.push_cells.ensures.row (whole_append (columns xs) (spread more) w (whole_spread more)) ∣₁;
+    }
 
 pub returns : goal.returns
 returns g c =
@@ -41,7 +46,7 @@ returns g c =
     let w = whole_of g.row.A.coded xs s.whole in
     let n = span_cols xs w in
     let f = ltb-false s.limit (c.len.result + c.len-2.result) (sym c.if-passes.ensures) in
-    carried (append_line (room_of s.limit) more c.args.seqno (state p)) p (panel c.push-cells.new.cols.items c.max-self.result s.limit)
+    carried (append_line (room_of s.limit) more c.args.seqno (state p)) p (panel c.push_cells.new.cols.items c.max-self.result s.limit)
     (skip_one (ltb s.limit (span (shown (columns xs)) + span more)) PastCapacity [] (le-ltb s.limit (span (shown (columns xs)) + span more) (omega arith)))
-    (ap shown c.push-cells.ensures.row ∙ shown_append (columns xs) (spread more) w ∙ ap (λ v. shown (columns xs) ++ v) (shown_spread more))
+    (ap shown c.push_cells.ensures.row ∙ shown_append (columns xs) (spread more) w ∙ ap (λ v. shown (columns xs) ++ v) (shown_spread more))
     c.max-self.ensures refl

@@ -15,29 +15,22 @@ returns-then-x-len g c =
     let xs = s.cells.items in
     past_end (λ v. without x (blanked x v) ++ (plain_blank k ∷ [])) x c.args.seqno xs s.seqno s.limit (whole_of g.row.A.coded xs s.whole) (omega arith)
 
-pub invariant-of-self : goal.invariant-of-self
-invariant-of-self g c =
+pub invariant_of-self : goal.invariant_of-self
+invariant_of-self g c =
     let s = c.args.self.now in
     let k = g.A.Attributes.kind in
     let x = c.args.x in
     let xs = s.cells.items in
     let w = whole_of g.row.A.coded xs s.whole in
     let ys = c.remove-gone.new.self.items in
-    let e = ap columns c.remove-gone.ensures.by_index.2 ∙ cols_without x c.blank-before.new.cols.items ∙ ap (without x) c.blank-before.ensures.row in
-    let f = ap columns c.push-reserved.ensures.items ∙ cols_push ys c.blank.result ∙ ap (λ v. columns ys ++ (v ∷ [])) c.blank.ensures ∙ ap (λ v. v ++ (plain_blank k ∷ [])) e in (
-      omega arith,
-      (
-        s.most,
-        (
-          omega arith,
-          (
-            ∣ whole_as f
-                (whole_append (without x (blanked x (columns xs))) (plain_blank k ∷ []) (whole_without x (blanked x (columns xs)) (inside_blanked x (columns xs)) (whole_blanked x (columns xs) w)) (whole_blanks 1 k.blank)) ∣₁,
-            tt,
-          ),
-        ),
-      ),
-    )
+    let e = ap columns c.remove-gone.ensures.by_index.2 ∙ cols_without x c.blank_before.new.cols.items ∙ ap (without x) c.blank_before.ensures.row in
+    let f = ap columns c.push_reserved.ensures.items ∙ cols_push ys c.blank.result ∙ ap (λ v. columns ys ++ (v ∷ [])) c.blank.ensures ∙ ap (λ v. v ++ (plain_blank k ∷ [])) e in record {
+      room = omega arith;
+      most = s.most;
+      within = omega arith;
+      whole = ∣ whole_as f
+          (whole_append (without x (blanked x (columns xs))) (plain_blank k ∷ []) (whole_without x (blanked x (columns xs)) (inside_blanked x (columns xs)) (whole_blanked x (columns xs) w)) (whole_blanks 1 k.blank)) ∣₁;
+    }
 
 pub returns : goal.returns
 returns g c =
@@ -46,7 +39,7 @@ returns g c =
     let x = c.args.x in
     let xs = s.cells.items in
     let ys = c.remove-gone.new.self.items in
-    let r = ap columns c.remove-gone.ensures.by_index.2 ∙ cols_without x c.blank-before.new.cols.items ∙ ap (without x) c.blank-before.ensures.row in
-    within_end (λ v. without x (blanked x v) ++ (plain_blank k ∷ [])) x c.args.seqno xs s.seqno s.limit (whole_of g.row.A.coded xs s.whole) c.push-reserved.new.self.items c.max-self.result (omega arith)
-    (ap columns c.push-reserved.ensures.items ∙ cols_push ys c.blank.result ∙ ap (λ v. columns ys ++ (v ∷ [])) c.blank.ensures ∙ ap (λ v. v ++ (plain_blank k ∷ [])) r)
+    let r = ap columns c.remove-gone.ensures.by_index.2 ∙ cols_without x c.blank_before.new.cols.items ∙ ap (without x) c.blank_before.ensures.row in
+    within_end (λ v. without x (blanked x v) ++ (plain_blank k ∷ [])) x c.args.seqno xs s.seqno s.limit (whole_of g.row.A.coded xs s.whole) c.push_reserved.new.self.items c.max-self.result (omega arith)
+    (ap columns c.push_reserved.ensures.items ∙ cols_push ys c.blank.result ∙ ap (λ v. columns ys ++ (v ∷ [])) c.blank.ensures ∙ ap (λ v. v ++ (plain_blank k ∷ [])) r)
     c.max-self.ensures

@@ -13,11 +13,21 @@ use Rattle.columns.proofs.edits.VecStorageGrid.prune_trailing_blanks.Goals as go
 pub trim-requires : goal.trim-requires
 trim-requires g c = let s = c.args.self.now in whole_of g.row.A.coded s.cells.items s.whole
 
-pub invariant-of-self : goal.invariant-of-self
-invariant-of-self g c = let s = c.args.self.now in (omega arith, (s.most, (omega arith, (∣ c.trim.ensures.whole ∣₁, tt))))
+pub invariant_of-self : goal.invariant_of-self
+invariant_of-self g c = let s = c.args.self.now in record {
+  room = omega arith;
+  most = s.most;
+  within = omega arith;
+  whole = ∣ c.trim.ensures.whole ∣₁;
+}
 
-pub invariant-of-self-else-len-before : goal.invariant-of-self-else-len-before
-invariant-of-self-else-len-before g c = let s = c.args.self.now in (omega arith, (s.most, (omega arith, (∣ c.trim.ensures.whole ∣₁, tt))))
+pub invariant_of-self-else-len-before : goal.invariant_of-self-else-len-before
+invariant_of-self-else-len-before g c = let s = c.args.self.now in record {
+  room = omega arith;
+  most = s.most;
+  within = omega arith;
+  whole = ∣ c.trim.ensures.whole ∣₁;
+}
 
 pub returns-then-len-before : goal.returns-then-len-before
 returns-then-len-before g c =

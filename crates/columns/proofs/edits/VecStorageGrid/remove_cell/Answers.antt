@@ -13,14 +13,19 @@ returns-then-x-len g c =
     let xs = s.cells.items in
     past_end (λ v. without x (blanked x v)) x c.args.seqno xs s.seqno s.limit (whole_of g.row.A.coded xs s.whole) (omega arith)
 
-pub invariant-of-self : goal.invariant-of-self
-invariant-of-self g c =
+pub invariant_of-self : goal.invariant_of-self
+invariant_of-self g c =
     let s = c.args.self.now in
     let x = c.args.x in
     let xs = s.cells.items in
     let w = whole_of g.row.A.coded xs s.whole in
-    let e = ap columns c.remove-gone.ensures.by_index.2 ∙ cols_without x c.blank-before.new.cols.items ∙ ap (without x) c.blank-before.ensures.row in
-    (omega arith, (s.most, (omega arith, (∣ whole_as e (whole_without x (blanked x (columns xs)) (inside_blanked x (columns xs)) (whole_blanked x (columns xs) w)) ∣₁, tt))))
+    let e = ap columns c.remove-gone.ensures.by_index.2 ∙ cols_without x c.blank_before.new.cols.items ∙ ap (without x) c.blank_before.ensures.row in
+    record {
+      room = omega arith;
+      most = s.most;
+      within = omega arith;
+      whole = ∣ whole_as e (whole_without x (blanked x (columns xs)) (inside_blanked x (columns xs)) (whole_blanked x (columns xs) w)) ∣₁;
+    }
 
 pub returns : goal.returns
 returns g c =
@@ -28,5 +33,5 @@ returns g c =
     let x = c.args.x in
     let xs = s.cells.items in
     within_end (λ v. without x (blanked x v)) x c.args.seqno xs s.seqno s.limit (whole_of g.row.A.coded xs s.whole) c.remove-gone.new.self.items c.max-self.result (omega arith)
-    (ap columns c.remove-gone.ensures.by_index.2 ∙ cols_without x c.blank-before.new.cols.items ∙ ap (without x) c.blank-before.ensures.row)
+    (ap columns c.remove-gone.ensures.by_index.2 ∙ cols_without x c.blank_before.new.cols.items ∙ ap (without x) c.blank_before.ensures.row)
     c.max-self.ensures

@@ -21,8 +21,8 @@ returns-in-Some g c =
     refused_columns (λ v. becomes (set_refusals ps (room_of s.limit) x d) (set_columns k x d v) c.args.seqno (state (panel xs s.seqno s.limit))) xs s.seqno s.limit
     (whole_of g.row.A.coded xs s.whole) c.in-Some.why (set_cell_refused ps (room_of s.limit) x d c.in-Some.why (sym c.in-Some.ensures))
 
-pub returns-then-adds-nothing : goal.returns-then-adds-nothing
-returns-then-adds-nothing g c =
+pub returns-then-adds_nothing : goal.returns-then-adds_nothing
+returns-then-adds_nothing g c =
     let s = c.args.self.now in
     let k = g.A.Attributes.kind in
     let ps = g.P.Splitter.splits in
@@ -31,14 +31,14 @@ returns-then-adds-nothing g c =
     let xs = s.cells.items in
     let f = ltb-false s.limit (x + c.width.result) (sym c.if-passes.ensures) in
     let q : length (columns xs) ≡ s.cells.len = let n = length_cols xs in omega arith in
-    let u : (ltb s.cells.len x && is_plain k d) ≡ true = sym c.if-adds-nothing.ensures in
+    let u : (ltb s.cells.len x && is_plain k d) ≡ true = sym c.if-adds_nothing.ensures in
     let t = ap (λ n. ltb n x && is_plain k d) q ∙ u in
     carried_columns (λ v. becomes (set_refusals ps (room_of s.limit) x d) (set_columns k x d v) c.args.seqno (state (panel xs s.seqno s.limit))) xs s.seqno s.limit
-    (whole_of g.row.A.coded xs s.whole) xs c.max-self.result (set_clear ps (room_of s.limit) x d (sym c.in-default.ensures) (omega arith))
+    (whole_of g.row.A.coded xs s.whole) xs c.max-self.result (set_clear ps (room_of s.limit) x d (sym c.in_default.ensures) (omega arith))
     (sym (ap (λ b. shown (cond b (columns xs) (over x d (blanked x (padded k x (columns xs)))))) t)) c.max-self.ensures
 
-pub invariant-of-self-2 : goal.invariant-of-self-2
-invariant-of-self-2 g c =
+pub invariant_of-self-2 : goal.invariant_of-self-2
+invariant_of-self-2 g c =
     let s = c.args.self.now in
     let k = g.A.Attributes.kind in
     let x = c.args.x in
@@ -46,9 +46,14 @@ invariant-of-self-2 g c =
     let xs = s.cells.items in
     let w = whole_of g.row.A.coded xs s.whole in
     let ys = padded k x (columns xs) in
-    let e = c.put.ensures.row ∙ ap (over x d) (c.blank-before.ensures.row ∙ ap (blanked x) c.pad.ensures.row) in
+    let e = c.put.ensures.row ∙ ap (over x d) (c.blank_before.ensures.row ∙ ap (blanked x) c.pad.ensures.row) in
     let f = ltb-false s.limit (x + c.width.result) (sym c.if-passes.ensures) in
-    (omega arith, (s.most, (omega arith, (∣ whole_as e (whole_over x d (blanked x ys) (inside_blanked x ys) (whole_blanked x ys (whole_padded k x (columns xs) w))) ∣₁, tt))))
+    record {
+      room = omega arith;
+      most = s.most;
+      within = omega arith;
+      whole = ∣ whole_as e (whole_over x d (blanked x ys) (inside_blanked x ys) (whole_blanked x ys (whole_padded k x (columns xs) w))) ∣₁;
+    }
 
 pub returns : goal.returns
 returns g c =
@@ -61,9 +66,9 @@ returns g c =
     let ys = c.put.new.cols.items in
     let f = ltb-false s.limit (x + c.width.result) (sym c.if-passes.ensures) in
     let q : length (columns xs) ≡ s.cells.len = let n = length_cols xs in omega arith in
-    let u : (ltb s.cells.len x && is_plain k d) ≡ false = sym c.if-adds-nothing.ensures in
+    let u : (ltb s.cells.len x && is_plain k d) ≡ false = sym c.if-adds_nothing.ensures in
     let t = ap (λ n. ltb n x && is_plain k d) q ∙ u in
-    let e = c.put.ensures.row ∙ ap (over x d) (c.blank-before.ensures.row ∙ ap (blanked x) c.pad.ensures.row) in
+    let e = c.put.ensures.row ∙ ap (over x d) (c.blank_before.ensures.row ∙ ap (blanked x) c.pad.ensures.row) in
     carried_columns (λ v. becomes (set_refusals ps (room_of s.limit) x d) (set_columns k x d v) c.args.seqno (state (panel xs s.seqno s.limit))) xs s.seqno s.limit
-    (whole_of g.row.A.coded xs s.whole) ys c.max-self-2.result (set_clear ps (room_of s.limit) x d (sym c.in-default.ensures) (omega arith))
+    (whole_of g.row.A.coded xs s.whole) ys c.max-self-2.result (set_clear ps (room_of s.limit) x d (sym c.in_default.ensures) (omega arith))
     (ap shown e ∙ sym (ap (λ b. shown (cond b (columns xs) (over x d (blanked x (padded k x (columns xs)))))) t)) c.max-self-2.ensures

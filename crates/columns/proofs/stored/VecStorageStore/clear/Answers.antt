@@ -3,7 +3,12 @@ use Rattle.rows.proofs.Wholes.{whole_as}
 use Rattle.columns.specs.Cols.{columns}
 use Rattle.columns.proofs.stored.VecStorageStore.clear.Goals as goal
 
-pub invariant-of-self : goal.invariant-of-self
-invariant-of-self g c =
+pub invariant_of-self : goal.invariant_of-self
+invariant_of-self g c =
     let s = c.args.self.now in
-    (omega arith, (s.most, (omega arith, (∣ whole_as (ap columns c.clear.ensures.items) refl ∣₁, tt))))
+    record {
+      room = omega arith;
+      most = s.most;
+      within = omega arith;
+      whole = ∣ whole_as (ap columns c.clear.ensures.items) refl ∣₁;
+    }

@@ -21,27 +21,32 @@ returns-then-len-eq0 g c =
     let p = panel s.cells.items s.seqno s.limit in
     carried (drop_last (state p)) p p refl (none s.cells.items (omega arith)) refl refl
 
-pub last-cell-last-requires : goal.last-cell-last-requires
-last-cell-last-requires g c = let s = c.args.self.now in (omega arith, whole_of g.row.A.coded s.cells.items s.whole)
+pub last_cell-last-requires : goal.last_cell-last-requires
+last_cell-last-requires g c = let s = c.args.self.now in (omega arith, whole_of g.row.A.coded s.cells.items s.whole)
 
-pub invariant-of-self : goal.invariant-of-self
-invariant-of-self g c =
+pub invariant_of-self : goal.invariant_of-self
+invariant_of-self g c =
     let s = c.args.self.now in
     let xs = s.cells.items in
-    let d = c.last-cell-last.result.cell in
-    let m = c.last-cell-last.result.column in
+    let d = c.last_cell-last.result.cell in
+    let m = c.last_cell-last.result.column in
     let w = whole_of g.row.A.coded xs s.whole in
     let e = ap columns c.truncate.ensures.items ∙ cols_take m xs in
-    (omega arith, (s.most, (omega arith, (∣ whole_as e (last_front (columns xs) m (meaning d) (sized_cell d) w c.last-cell-last.ensures) ∣₁, tt))))
+    record {
+      room = omega arith;
+      most = s.most;
+      within = omega arith;
+      whole = ∣ whole_as e (last_front (columns xs) m (meaning d) (sized_cell d) w c.last_cell-last.ensures) ∣₁;
+    }
 
 pub returns : goal.returns
 returns g c =
     let s = c.args.self.now in
     let xs = s.cells.items in
-    let d = c.last-cell-last.result.cell in
-    let m = c.last-cell-last.result.column in
+    let d = c.last_cell-last.result.cell in
+    let m = c.last_cell-last.result.column in
     let w = whole_of g.row.A.coded xs s.whole in
     let e = ap columns c.truncate.ensures.items ∙ cols_take m xs in
     let p = panel xs s.seqno s.limit in
     carried (drop_last (state p)) p (panel c.truncate.new.self.items s.seqno s.limit) refl
-    (ap shown e ∙ last_gone (columns xs) m (meaning d) (sized_cell d) w c.last-cell-last.ensures) refl refl
+    (ap shown e ∙ last_gone (columns xs) m (meaning d) (sized_cell d) w c.last_cell-last.ensures) refl refl

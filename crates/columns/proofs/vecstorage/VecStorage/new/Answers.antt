@@ -3,5 +3,10 @@ use Rattle.rows.proofs.Wholes.{whole_as}
 use Rattle.columns.specs.Cols.{columns}
 use Rattle.columns.proofs.vecstorage.VecStorage.new.Goals as goal
 
-pub invariant-of-result : goal.invariant-of-result
-invariant-of-result g c = (omega arith, (omega arith, (omega arith, (∣ whole_as (ap columns c.clear.ensures.items) refl ∣₁, tt))))
+pub invariant_of-result : goal.invariant_of-result
+invariant_of-result g c = record {
+  room = omega arith;
+  most = omega arith;
+  within = omega arith;
+  whole = ∣ whole_as (ap columns c.clear.ensures.items) refl ∣₁;
+}
