@@ -1,5 +1,5 @@
 //! Lines of text as rows on a board.
 #![tactic(auto)]
 
-pub mod rows;
+pub mod boarding;
 pub mod texts;

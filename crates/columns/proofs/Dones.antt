@@ -1,6 +1,6 @@
 -- What a call did, from its refusals and its columns.
 use Rattle.std.proofs.Common.{◌≡◌, ℕ, zero, suc, ◌+◌, ◌-◌, ◌<◌, ◌≤◌, max, Bool, true, false, cond, not, eqb, ltb, ◌⊎◌, List, [], ◌∷◌, ◌++◌, length, take, drop, replicate, Some, None, Ok, Err, Option, Result, sym, refl, ap, ◌∙◌, subst, inl, inr, arith}
-use Rattle.std.specs.List.{AllByRecursion as All}
+use Rattle.std.specs.List.{AllByRecursion}
 use Rattle.std.proofs.lemmas.List.{length-append, length-map, length-replicate, nil_from_length}
 use Rattle.std.proofs.lemmas.Bool.{ltb-false, lt-ltb, le-ltb, ne_eqb, eqb-false, cases_Bool, not-false}
 use Rattle.cells.specs.Cells.{Shown, meaning, plain_blank}
@@ -168,7 +168,7 @@ span_blanks : {A : Type 0} (k : Kind A) (n : ℕ) → span (replicate n (plain_b
 span_blanks k zero = refl
 span_blanks k (suc n) = let e = span_blanks k n in omega arith
 
-pub prune_count : {A : Type 0} (k : Kind A) (cells : List (Shown A)) → All Sized cells
+pub prune_count : {A : Type 0} (k : Kind A) (cells : List (Shown A)) → AllByRecursion Sized cells
     → length cells + span (up_to_last (not_plain k) cells) ≡ length (up_to_last (not_plain k) cells) + span cells
 prune_count k cells h =
     let r = pruned k cells h in

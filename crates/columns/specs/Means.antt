@@ -3,7 +3,7 @@ use Rattle.std.specs.Prelude.{◌≡◌, ℕ, zero, suc, ◌+◌, ◌-◌, ◌<�
 use Rattle.std.proofs.Common.{sym, ap, subst, ◌∙◌, inl, inr, arith}
 use Rattle.std.proofs.Math.Logic.{∥∥₁_elim}
 use base.Stored.{Coded, Coded-set, coded_via, coded×, coded_list, coded_ℕ}
-use Rattle.std.specs.List.{AllByRecursion as All}
+use Rattle.std.specs.List.{AllByRecursion}
 use Rattle.std.proofs.lemmas.List.{get_or-map, take-map, drop-map, map-append, map_push, map-set, length-map, length-drop}
 use Rattle.std.proofs.lemmas.Bool.{eqb-true, eqb-false}
 use Rattle.cells.specs.Cells.{Shown, meaning, blank_with}
@@ -78,7 +78,7 @@ module _ {A : Type 0} where
   pub whole_of : Coded A → (xs : List (Cell A)) → ∥ Whole (columns xs) ∥₁ → Whole (columns xs)
   whole_of a xs w = ∥∥₁_elim w (Coded-set (coded_list (coded_shown a)) _ _) (λ e. e)
 
-  pub sized_shown : (xs : List (Cell A)) → All Sized (shown (columns xs))
+  pub sized_shown : (xs : List (Cell A)) → AllByRecursion Sized (shown (columns xs))
   sized_shown xs = all_shown Sized (λ a. refl) (columns xs) (sized_cells xs)
 
   -- as many columns as the shown cells take

@@ -5,7 +5,7 @@ ghost use Rattle.gauge.specs.Lines.{lines_of};
 ghost use Rattle.boards.specs.Boards.{come_to};
 
 use crate::reports::{AccountReport, LineReport, RowReport};
-use boards::rows::{board_width, put_line};
+use boards::boarding::{board_width, put_line};
 use boards::texts::board_text;
 use cells::attributes::Attributes;
 use gauge::account::Account;

@@ -1,6 +1,6 @@
 -- Calls said of shown cells, and said of columns.
 use Rattle.std.proofs.Common.{◌≡◌, ℕ, zero, suc, ◌-◌, ◌≤◌, min, Bool, false, List, [], ◌∷◌, ◌++◌, map, length, take, drop, replicate, None, sym, refl, ap, ◌∙◌, inl, inr, append-nil, arith}
-use Rattle.std.specs.List.{AllByRecursion as All}
+use Rattle.std.specs.List.{AllByRecursion}
 use Rattle.std.proofs.ByRecursion.{All-take}
 use Rattle.std.proofs.lemmas.List.{length-take, take_all, take-append-drop}
 use Rattle.std.proofs.lemmas.Bool.{cases_Bool, both_ways, not-true}
@@ -52,7 +52,7 @@ module _ {A : Type 0} where
       ]
 
   -- the same of the cells that the two parts show
-  pub cut_shown : (cells : List (Shown A)) (idx : ℕ) → inside idx (spread cells) ≡ false → All Sized cells
+  pub cut_shown : (cells : List (Shown A)) (idx : ℕ) → inside idx (spread cells) ≡ false → AllByRecursion Sized cells
       → (n : ℕ) × (shown (take idx (spread cells)) ≡ take n cells) × (shown (drop idx (spread cells)) ≡ drop n cells) × (span (take n cells) ≡ min idx (span cells))
   cut_shown cells idx e h =
       let r = cut_at cells idx e in
@@ -77,7 +77,7 @@ module _ {A : Type 0} where
   joins cells more = ap shown (sym (spread_append cells more)) ∙ shown_spread (cells ++ more)
 
 module _ {A : Type 0} (k : Kind A) (room : Room) where
-  prunes : (cells : List (Shown A)) → All Sized cells → (n : ℕ)
+  prunes : (cells : List (Shown A)) → AllByRecursion Sized cells → (n : ℕ)
       × (cells ≡ up_to_last (not_plain k) cells ++ replicate n (plain_blank k))
       × (spread cells ≡ spread (up_to_last (not_plain k) cells) ++ replicate n (plain_blank k))
   prunes cells h =
@@ -95,7 +95,7 @@ module _ {A : Type 0} (k : Kind A) (room : Room) where
       ∙ spread_append cells (flag_cell k on c ∷ [])
       ∙ ap (λ v. spread cells ++ v) (append-nil (columns_of (flag_cell k on c)) ∙ columns_flagged k on c)
 
-  widens : (cells : List (Shown A)) (width : ℕ) → All Sized cells → span cells ≤ width
+  widens : (cells : List (Shown A)) (width : ℕ) → AllByRecursion Sized cells → span cells ≤ width
       → shown (padded k width (take width (spread cells))) ≡ cells ++ replicate (width - span cells) (plain_blank k)
   widens cells width h l =
       let w = length_spread cells h in
@@ -109,7 +109,7 @@ module _ {A : Type 0} (k : Kind A) (room : Room) where
   full : (n m : ℕ) (xs : List (Shown A)) → m ≡ 0 → xs ++ replicate m (plain_blank k) ≡ xs
   full n m xs e = ap (λ v. xs ++ replicate v (plain_blank k)) e ∙ append-nil xs
 
-  narrows : (cells : List (Shown A)) (width : ℕ) → All Sized cells → width ≤ span cells → inside width (spread cells) ≡ false
+  narrows : (cells : List (Shown A)) (width : ℕ) → AllByRecursion Sized cells → width ≤ span cells → inside width (spread cells) ≡ false
       → (n : ℕ) × (shown (padded k width (take width (spread cells))) ≡ take n cells) × (span (take n cells) ≡ width)
   narrows cells width h l e =
       let r = cut_shown cells width e h in

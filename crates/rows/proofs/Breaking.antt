@@ -1,7 +1,7 @@
 -- A new row begins exactly when the current one has a cell and the next would pass the width: the greedy rows do so, and no other cutting does.
 use Rattle.std.proofs.Common.{◌≡◌, ℕ, zero, suc, ◌+◌, ◌-◌, ◌<◌, ◌≤◌, List, [], ◌∷◌, ◌++◌, length, take, drop, sym, refl, ap, ◌∙◌, inl, inr, ⊎_elim, arith, length-append, length-drop, take_all, take-take}
 use lib.Seq.{take-append-add, take-append-le, take-append_seam, drop-append_seam}
-use Rattle.std.specs.List.{AllByRecursion as All}
+use Rattle.std.specs.List.{AllByRecursion}
 use Rattle.std.proofs.lemmas.Bool.{cases_lt}
 use Rattle.cells.specs.Cells.{Shown}
 use Rattle.rows.specs.Cuttings.{Cutting, Fits, FitsOrOne, Neighbours, Breaks}
@@ -68,7 +68,7 @@ module _ {A : Type 0} (w : ℕ) where
       (cases_lt 1 (length row))
 
   -- the greedy row is no longer than a row behind which a cell would pass the width
-  no_longer : (row : List (Shown A)) (rows : List (List (Shown A))) → 0 < length row → All (λ r. 0 < length r) rows
+  no_longer : (row : List (Shown A)) (rows : List (List (Shown A))) → 0 < length row → AllByRecursion (λ r. 0 < length r) rows
       → Neighbours (λ r next. w < span (r ++ take 1 next)) (row ∷ rows) → greedy w (row ++ joined rows) ≤ length (row ++ joined rows)
       → greedy w (row ++ joined rows) ≤ length row
   no_longer row [] some filled begin within = let l = length-append {A = Shown A} row [] in omega arith
@@ -87,8 +87,8 @@ module _ {A : Type 0} (w : ℕ) where
       (cases_lt (length row) g)
 
   -- a cutting by that rule has the greedy rows
-  settled : (rows : List (List (Shown A))) → All (λ row. 0 < length row) rows → Neighbours (λ row next. w < span (row ++ take 1 next)) rows
-      → All (λ row. (n : ℕ) → 0 < n → n < length row → Fits w (take (suc n) row)) rows → rows ≡ rows_of greedy w (joined rows)
+  settled : (rows : List (List (Shown A))) → AllByRecursion (λ row. 0 < length row) rows → Neighbours (λ row next. w < span (row ++ take 1 next)) rows
+      → AllByRecursion (λ row. (n : ℕ) → 0 < n → n < length row → Fits w (take (suc n) row)) rows → rows ≡ rows_of greedy w (joined rows)
   settled [] filled begin on = refl
   settled ([] ∷ rows) filled begin on = absurd (omega (arith, filled.0))
   settled ((c ∷ row) ∷ rows) filled begin on =

@@ -1,6 +1,6 @@
 -- Any proper cut: what it makes of cells is a cutting into rows that fit or are one cell, and fuel does not matter.
 use Rattle.std.proofs.Common.{◌≡◌, ℕ, zero, suc, ◌<◌, ◌≤◌, List, [], ◌∷◌, ◌++◌, length, take, drop, refl, ap, ◌∙◌, inl, inr, ⊎_elim, arith, length-drop, take-append-drop, length-take}
-use Rattle.std.specs.List.{AllByRecursion as All}
+use Rattle.std.specs.List.{AllByRecursion}
 use Rattle.std.proofs.lemmas.Bool.{cases_lt}
 use Rattle.cells.specs.Cells.{Shown}
 use Rattle.rows.specs.Cuttings.{Cutting, FitsOrOne}
@@ -38,7 +38,7 @@ module _ {A : Type 0} (cut : Cut A) (proper : Proper cut) (w : ℕ) where
   has_cell : (c : Shown A) (cs : List (Shown A)) → 0 < length (take (cut w (c ∷ cs)) (c ∷ cs))
   has_cell c cs = let s = proper.some w c cs in let t = length-take (cut w (c ∷ cs)) (c ∷ cs) in omega arith
 
-  all_filled : (n : ℕ) (cs : List (Shown A)) → All (λ row. 0 < length row) (cut_up cut w n cs)
+  all_filled : (n : ℕ) (cs : List (Shown A)) → AllByRecursion (λ row. 0 < length row) (cut_up cut w n cs)
   all_filled zero cs = tt
   all_filled (suc n) [] = tt
   all_filled (suc n) (c ∷ cs) = (has_cell c cs, all_filled n (drop (cut w (c ∷ cs)) (c ∷ cs)))
@@ -49,7 +49,7 @@ module _ {A : Type 0} (cut : Cut A) (proper : Proper cut) (w : ℕ) where
       let t = length-take (cut w (c ∷ cs)) (c ∷ cs) in
       ⊎_elim (λ h. inl (proper.fits w c cs h)) (λ h. inr (omega arith)) (cases_lt 1 (cut w (c ∷ cs)))
 
-  all_fit : (n : ℕ) (cs : List (Shown A)) → All (FitsOrOne w) (cut_up cut w n cs)
+  all_fit : (n : ℕ) (cs : List (Shown A)) → AllByRecursion (FitsOrOne w) (cut_up cut w n cs)
   all_fit zero cs = tt
   all_fit (suc n) [] = tt
   all_fit (suc n) (c ∷ cs) = (row_fits c cs, all_fit n (drop (cut w (c ∷ cs)) (c ∷ cs)))
@@ -57,5 +57,5 @@ module _ {A : Type 0} (cut : Cut A) (proper : Proper cut) (w : ℕ) where
   pub rows_cutting : (cs : List (Shown A)) → Cutting cs (rows_of cut w cs)
   rows_cutting cs = record { joins = joins_back (length cs) cs (omega arith); filled = all_filled (length cs) cs }
 
-  pub rows_fit : (cs : List (Shown A)) → All (FitsOrOne w) (rows_of cut w cs)
+  pub rows_fit : (cs : List (Shown A)) → AllByRecursion (FitsOrOne w) (rows_of cut w cs)
   rows_fit cs = all_fit (length cs) cs

@@ -1,6 +1,6 @@
 -- The flags of wrapped rows alter no width and no count, so what holds of rows by their lengths holds of the flagged ones.
 use Rattle.std.proofs.Common.{◌≡◌, ℕ, suc, ◌+◌, ◌<◌, true, List, [], ◌∷◌, ◌++◌, length, take, refl, ap, inl, inr, ⊎_elim, arith}
-use Rattle.std.specs.List.{AllByRecursion as All}
+use Rattle.std.specs.List.{AllByRecursion}
 use Rattle.cells.specs.Cells.{Shown}
 use Rattle.cells.specs.Kinds.{Kind}
 use Rattle.rows.specs.Cuttings.{FitsOrOne, Neighbours}
@@ -39,7 +39,7 @@ module _ {A : Type 0} (k : Kind A) where
       let l = flag_last_length row in
       ⊎_elim (λ f. inl (omega arith)) (λ o. inr (omega arith)) fits
 
-  pub fit_flagged : (w : ℕ) (rows : List (List (Shown A))) → All (FitsOrOne w) rows → All (FitsOrOne w) (flag_ends k rows)
+  pub fit_flagged : (w : ℕ) (rows : List (List (Shown A))) → AllByRecursion (FitsOrOne w) rows → AllByRecursion (FitsOrOne w) (flag_ends k rows)
   fit_flagged w [] fits = tt
   fit_flagged w (row ∷ []) fits = fits
   fit_flagged w (row ∷ (next ∷ rows)) fits = (fits_flagged w row fits.0, fit_flagged w (next ∷ rows) fits.1)

@@ -1,6 +1,6 @@
 -- The greedy cut takes as many cells as fit, so no cutting has fewer rows and the rule for a new row leaves one cutting.
 use Rattle.std.proofs.Common.{◌≡◌, ℕ, zero, suc, ◌+◌, ◌-◌, ◌<◌, ◌≤◌, ◌⊎◌, List, [], ◌∷◌, ◌++◌, length, take, drop, sym, refl, ap, ◌∙◌, inl, inr, ⊎_elim, arith, length-append, length-drop, take-add}
-use Rattle.std.specs.List.{AllByRecursion as All}
+use Rattle.std.specs.List.{AllByRecursion}
 use lib.Seq.{drop-nil, drop-append-add, take-append_seam}
 use Rattle.std.proofs.lemmas.List.{drop-drop, drop-take}
 use Rattle.std.proofs.lemmas.Bool.{cases_lt, le-leb, lt-leb}
@@ -125,7 +125,7 @@ module _ {A : Type 0} (w : ℕ) where
       let way : Fits w (take (length row) (row ++ cs)) ⊎ (length row ≤ 1) = ⊎_elim (λ f. inl (omega arith)) (λ o. inr (omega arith)) fits in
       greedy_most w (length row) (row ++ cs) (omega arith) way
 
-  pub fewest : (rows : List (List (Shown A))) → All (λ row. 0 < length row) rows → All (FitsOrOne w) rows → count (joined rows) ≤ length rows
+  pub fewest : (rows : List (List (Shown A))) → AllByRecursion (λ row. 0 < length row) rows → AllByRecursion (FitsOrOne w) rows → count (joined rows) ≤ length rows
   fewest [] filled fits = omega arith
   fewest ([] ∷ rows) filled fits = absurd (omega (arith, filled.0))
   fewest ((c ∷ row) ∷ rows) filled fits =

@@ -1,6 +1,6 @@
 -- Every cell of a row that calls made is one piece of the splitter.
 use Rattle.std.proofs.Common.{◌≡◌, ℕ, zero, suc, ◌-◌, ◌<◌, ◌≤◌, Bool, true, false, cond, not, List, [], ◌∷◌, ◌++◌, map, length, take, drop, Some, None, Option, sym, refl, ap, ◌∙◌, subst, inl, inr, arith}
-use Rattle.std.specs.List.{AllByRecursion as All}
+use Rattle.std.specs.List.{AllByRecursion}
 use Rattle.std.proofs.ByRecursion.{All-map, All-weaker}
 use Rattle.std.proofs.lemmas.List.{length-take-le, take-append-drop}
 use Rattle.std.proofs.lemmas.Bool.{not-false, eqb-true, eq-eqb}
@@ -52,7 +52,7 @@ module _ (p : Splits) where
   back zero b t l = absurd (omega arith)
   back (suc n) b t l = let e : suc n - 1 ≡ n = omega arith in (rw e, rw e)
 
-  one_cut : (fuel : ℕ) (t : List ℕ) → p.good t ≡ true → All One (cut p.first fuel t)
+  one_cut : (fuel : ℕ) (t : List ℕ) → p.good t ≡ true → AllByRecursion One (cut p.first fuel t)
   one_cut zero t g = tt
   one_cut (suc fuel) [] g = tt
   one_cut (suc fuel) (b ∷ t) g =
@@ -68,7 +68,7 @@ module _ (p : Splits) where
     piece_blank : (a : A) → Piece p (blank_with a)
     piece_blank a = record { good = one_space.0; one = one_space.1 }
 
-    pieces_text : (a : A) (t : List ℕ) → p.good t ≡ true → All (Piece p) (cells_of p a t)
+    pieces_text : (a : A) (t : List ℕ) → p.good t ≡ true → AllByRecursion (Piece p) (cells_of p a t)
     pieces_text a t g =
         All-map (Piece p) (cell_of p a) (pieces p.first t)
         (All-weaker One (λ q. Piece p (cell_of p a q)) (λ q h. let e = one_clean q h in record { good = e.0; one = e.1 }) (pieces p.first t) (one_cut (length t) t g))
@@ -84,7 +84,7 @@ or_first (Some why) r e = e
 or_first None r e = refl
 
 module _ {A : Type 0} (k : Kind A) (p : Splits) where
-  brought : (room : Room) (s o : State A) (c : Call A) → Appends c o → All (Piece p) o.cells → (edit k p room s c).refusal ≡ None → All (Piece p) (brings p c)
+  brought : (room : Room) (s o : State A) (c : Call A) → Appends c o → AllByRecursion (Piece p) o.cells → (edit k p room s c).refusal ≡ None → AllByRecursion (Piece p) (brings p c)
   brought room s o (Alter (FromText t a seqno)) u h e = pieces_text p a t (not-false (p.good t) (none_fits (text_refusals p room t a) e).0)
   brought room s o (Alter (SetCell x c seqno)) u h e = let n = none_fits (set_refusals p room x c) e in (piece_given p c n.0 n.1.0, tt)
   brought room s o (Alter (InsertCell x c margin seqno)) u h e = let n = none_fits (insert_refusals k p room x c margin (spread s.cells)) e in (piece_given p c n.0 n.1.0, tt)
@@ -98,13 +98,13 @@ module _ {A : Type 0} (k : Kind A) (p : Splits) where
   brought room s o (Alter (Take c)) u h e =
       let n = none_fits (cell_refusals p c) (or_first (first_of (cell_refusals p c)) (grid_rule room s.cells c) e) in
       (piece_given p c n.0 n.1.0, tt)
-  brought room s o (AppendLine other seqno) u h e = subst (λ (v : State A). All (Piece p) v.cells) (sym u) h
+  brought room s o (AppendLine other seqno) u h e = subst (λ (v : State A). AllByRecursion (Piece p) v.cells) (sym u) h
   brought room s o (SplitOff second idx seqno) u h e = tt
   brought room s o (Ask question) u h e = tt
   brought room s o Compact u h e = tt
   brought room s o Expand u h e = tt
 
-  made_pieces : (s : State A) → Made k p s → All (Piece p) s.cells
+  made_pieces : (s : State A) → Made k p s → AllByRecursion (Piece p) s.cells
   made_pieces s (fresh n) = tt
   made_pieces s (called room t o c m l u) =
       all_unless (Piece p) (edit k p room t c).refusal t.cells (edit k p room t c).cells (made_pieces t m)
@@ -116,15 +116,15 @@ module _ {A : Type 0} (k : Kind A) (p : Splits) where
       all_unless (Piece p) (wrap greedy k second at width seqno t).refusal [] (wrap greedy k second at width seqno t).cells tt
       (λ e. all_wrap k (Piece p) (piece_blank p) (λ on d h. record { good = h.good; one = h.one }) greedy width at t.cells (made_pieces t m))
 
-  made_after : (room : Room) (s : State A) (cs : List (Call A)) → Made k p s → All (Likewise k p) cs → Made k p (after k p room s cs)
+  made_after : (room : Room) (s : State A) (cs : List (Call A)) → Made k p s → AllByRecursion (Likewise k p) cs → Made k p (after k p room s cs)
   made_after room s [] m h = m
   made_after room s (c ∷ cs) m h = made_after room (step k p room s c) cs (called room s h.0.0 c m h.0.1 h.0.2) h.1
 
-all_behind : {X : Type 0} (P : X → Type 0) (xs : List X) → All P xs → All (λ s. P s.1) (behind xs)
+all_behind : {X : Type 0} (P : X → Type 0) (xs : List X) → AllByRecursion P xs → AllByRecursion (λ s. P s.1) (behind xs)
 all_behind P [] h = tt
 all_behind P (x ∷ xs) h = (h.0, All-map (λ s. P s.1) (λ s. (x ∷ s.0, s.1)) (behind xs) (all_behind P xs h.1))
 
-first_only : (os : List (Option Refusal)) → All TenOrEleven os → TenOrEleven (first_some os)
+first_only : (os : List (Option Refusal)) → AllByRecursion TenOrEleven os → TenOrEleven (first_some os)
 first_only [] h why e = let z : ◌≡◌ {A = ℕ} 0 1 = cc in absurd (omega arith)
 first_only (Some x ∷ os) h why e = h.0 why e
 first_only (None ∷ os) h why e = first_only os h.1 why e
@@ -138,7 +138,7 @@ module _ {A : Type 0} (k : Kind A) (p : Splits) where
   taken : (rule : List (Shown A) → Shown A → Option Refusal) (cells : List (Shown A)) (c : Shown A) → Piece p c → Packer rule → TenOrEleven (take_refusal p rule cells c)
   taken rule cells c h r why e = r cells c why (sym (ap (λ o. or_else o (rule cells c)) (no_refusal p c h)) ∙ e)
 
-  pub compacts : (cells : List (Shown A)) (rule : List (Shown A) → Shown A → Option Refusal) → All (Piece p) cells → Packer rule → TenOrEleven (compaction p rule cells)
+  pub compacts : (cells : List (Shown A)) (rule : List (Shown A) → Shown A → Option Refusal) → AllByRecursion (Piece p) cells → Packer rule → TenOrEleven (compaction p rule cells)
   compacts cells rule h r =
       first_only (map (λ s. take_refusal p rule s.0 s.1) (behind cells))
       (All-map TenOrEleven (λ s. take_refusal p rule s.0 s.1) (behind cells)

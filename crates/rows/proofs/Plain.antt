@@ -1,6 +1,6 @@
 -- Spaces and plain blanks.
 use Rattle.std.proofs.Common.{◌≡◌, ℕ, Bool, true, false, List, [], ◌∷◌, ◌++◌, length, replicate, Some, None, sym, refl, ap, ◌∙◌, subst, inl, inr, arith}
-use Rattle.std.specs.List.{AllByRecursion as All}
+use Rattle.std.specs.List.{AllByRecursion}
 use Rattle.std.proofs.lemmas.Bool.{false≢true, eqb-true, both_ways, and_parts, or_parts, or_from, or_left, or_right, not-false, cases_Bool}
 use Rattle.cells.specs.Cells.{Shown, plain_blank, is_plain}
 use Rattle.cells.specs.Cleaning.{space}
@@ -29,13 +29,13 @@ pub plain_is : {A : Type 0} (k : Kind A) (c : Shown A) → Sized c → is_plain 
 plain_is k c h e = plain_two k c (two c h) e
 
 module _ {A : Type 0} (k : Kind A) where
-  all_plain : (cells : List (Shown A)) → All Sized cells → any (not_plain k) cells ≡ false → cells ≡ replicate (length cells) (plain_blank k)
+  all_plain : (cells : List (Shown A)) → AllByRecursion Sized cells → any (not_plain k) cells ≡ false → cells ≡ replicate (length cells) (plain_blank k)
   all_plain [] h e = refl
   all_plain (c ∷ cs) h e =
       let q = or_parts (not_plain k c) (any (not_plain k) cs) e in
       ap (λ v. v ∷ cs) (plain_is k c h.0 (not-false (is_plain k c) q.0)) ∙ ap (λ vs. plain_blank k ∷ vs) (all_plain cs h.1 q.1)
 
-  pub pruned : (cells : List (Shown A)) → All Sized cells → (n : ℕ) × (cells ≡ up_to_last (not_plain k) cells ++ replicate n (plain_blank k))
+  pub pruned : (cells : List (Shown A)) → AllByRecursion Sized cells → (n : ℕ) × (cells ≡ up_to_last (not_plain k) cells ++ replicate n (plain_blank k))
   pruned [] h = (0, refl)
   pruned (c ∷ cs) h =
       let r = pruned cs h.1 in

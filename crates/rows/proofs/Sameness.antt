@@ -1,6 +1,6 @@
 -- Equality of rows holds exactly where numbers, lengths and columns agree, and is an equivalence.
 use Rattle.std.proofs.Common.{◌≡◌, eqb, List, [], ◌∷◌, length, Decides, sym, refl, ◌∙◌, inl, inr, arith, length-append}
-use Rattle.std.specs.List.{AllZip, AllByRecursion as All}
+use Rattle.std.specs.List.{AllZip, AllByRecursion}
 use Rattle.std.proofs.lemmas.List.Elements.{length_all_zip}
 use Rattle.std.proofs.lemmas.Bool.{false≢true}
 use Rattle.std.proofs.lemmas.Bool.Decides.{Decides-and, Decides-eqb, Decides-like}
@@ -36,7 +36,7 @@ module _ {A : Type 0} where
   columns_length c (inl e) = rw e
   columns_length c (inr e) = rw e
 
-  spread_length : (cs : List (Shown A)) → All OneOrTwo cs → length (spread cs) ≡ span cs
+  spread_length : (cs : List (Shown A)) → AllByRecursion OneOrTwo cs → length (spread cs) ≡ span cs
   spread_length [] h = refl
   spread_length (c ∷ cs) h =
       let i = spread_length cs h.1 in

@@ -1,7 +1,7 @@
 -- Widths.
 use Rattle.std.proofs.Common.{◌≡◌, false, not, ◌&&◌, ◌||◌, eqb, ◌⊎◌, List, [], ◌∷◌, map, inl, inr, ⊎_elim}
 use Rattle.std.proofs.lemmas.Bool.{not-false, not-true, or_cases, and_parts, eqb-true}
-use Rattle.std.specs.List.{AllByRecursion as All}
+use Rattle.std.specs.List.{AllByRecursion}
 use Rattle.cells.specs.Cells.{Shown, meaning}
 use Rattle.cells.specs.declared.cell.Cell.{Cell}
 use Rattle.cells.specs.Words.{is_space}
@@ -22,6 +22,6 @@ sized c (inl e) = rw e
 sized c (inr e) = rw (e.0, e.1)
 
 -- what code holds
-pub sized_cells : {A : Type 0} (cs : List (Cell A)) → All Sized (map meaning cs)
+pub sized_cells : {A : Type 0} (cs : List (Cell A)) → AllByRecursion Sized (map meaning cs)
 sized_cells [] = tt
 sized_cells (c ∷ cs) = (c.text.narrow, sized_cells cs)

@@ -1,6 +1,6 @@
 -- How many columns cells take.
 use Rattle.std.proofs.Common.{◌≡◌, ℕ, zero, suc, ◌+◌, ◌<◌, ◌≤◌, true, false, List, [], ◌∷◌, ◌++◌, map, length, get_or, Some, None, sym, refl, ap, ◌∙◌, inl, inr, add-one, arith}
-use Rattle.std.specs.List.{AllByRecursion as All, slice_get}
+use Rattle.std.specs.List.{AllByRecursion, slice_get}
 use Rattle.std.proofs.lemmas.List.{length-append}
 use Rattle.cells.specs.Cells.{Shown, blank_with}
 use Rattle.rows.specs.Lists.{span}
@@ -27,7 +27,7 @@ module _ {A : Type 0} where
   pub length_columns : (c : Shown A) → Sized c → length (columns_of c) ≡ c.width
   length_columns c h = length_two c (two c h)
 
-  pub length_spread : (cells : List (Shown A)) → All Sized cells → length (spread cells) ≡ span cells
+  pub length_spread : (cells : List (Shown A)) → AllByRecursion Sized cells → length (spread cells) ≡ span cells
   length_spread [] h = refl
   length_spread (c ∷ cs) h =
       length-append (columns_of c) (spread cs) ∙ (let e = length_columns c h.0 in let f = length_spread cs h.1 in omega arith)
@@ -37,7 +37,7 @@ module _ {A : Type 0} where
   span_append (c ∷ xs) ys = let e = span_append xs ys in omega arith
 
   -- whole columns are as many as their cells take
-  pub span_shown : (cols : List (Shown A)) → Whole cols → All Sized (shown cols) → span (shown cols) ≡ length cols
+  pub span_shown : (cols : List (Shown A)) → Whole cols → AllByRecursion Sized (shown cols) → span (shown cols) ≡ length cols
   span_shown cols w h = sym (length_spread (shown cols) h) ∙ ap length w
 
   pub nth_placed : (cells : List (Shown A)) (n : ℕ) (d : Shown A) → n < length cells
@@ -57,12 +57,12 @@ module _ {A : Type 0} where
   get_or_behind c xs n d (inl e) = let f : c.width + n ≡ suc n = omega arith in rw (f, e)
   get_or_behind c xs n d (inr e) = let f : c.width + n ≡ suc (suc n) = omega arith in rw (f, e.0)
 
-  pub stands : (cells : List (Shown A)) (n : ℕ) (d : Shown A) → All Sized cells → n < length cells → get_or (spread cells) (column_of n cells) d ≡ get_or cells n d
+  pub stands : (cells : List (Shown A)) (n : ℕ) (d : Shown A) → AllByRecursion Sized cells → n < length cells → get_or (spread cells) (column_of n cells) d ≡ get_or cells n d
   stands [] n d h l = absurd (omega arith)
   stands (c ∷ cs) zero d h l = refl
   stands (c ∷ cs) (suc n) d h l = get_or_behind c (spread cs) (column_of n cs) d (two c h.0) ∙ stands cs n d h.1 (omega arith)
 
-  pub hides : (cells : List (Shown A)) (n : ℕ) (d : Shown A) → All Sized cells → n < length cells → wide (get_or cells n d) ≡ true
+  pub hides : (cells : List (Shown A)) (n : ℕ) (d : Shown A) → AllByRecursion Sized cells → n < length cells → wide (get_or cells n d) ≡ true
       → get_or (spread cells) (column_of n cells + 1) d ≡ blank_with (get_or cells n d).attrs
   hides [] n d h l e = absurd (omega arith)
   hides (c ∷ cs) zero d h l e = rw e
@@ -77,7 +77,7 @@ module _ {A : Type 0} where
   inside_behind c xs zero (inr e) h = let f : c.width + 0 ≡ 2 = omega arith in rw (f, e.0)
   inside_behind c xs (suc n) (inr e) h = let f : c.width + suc n ≡ suc (suc (suc n)) = omega arith in rw (f, e.0) h
 
-  pub starts : (cells : List (Shown A)) (n : ℕ) → All Sized cells → inside (column_of n cells) (spread cells) ≡ false
+  pub starts : (cells : List (Shown A)) (n : ℕ) → AllByRecursion Sized cells → inside (column_of n cells) (spread cells) ≡ false
   starts [] zero h = refl
   starts [] (suc n) h = refl
   starts (c ∷ cs) zero h = refl
@@ -87,10 +87,10 @@ module _ {A : Type 0} where
   wide_behind c xs n (inl e) = let f : c.width + n ≡ suc n = omega arith in rw (f, e)
   wide_behind c xs n (inr e) = let f : c.width + n ≡ suc (suc n) = omega arith in rw (f, e.0)
 
-  wide_stands : (cells : List (Shown A)) (n : ℕ) (d : Shown A) → All Sized cells → n < length cells → wide_at (column_of n cells) (spread cells) ≡ wide (get_or cells n d)
+  wide_stands : (cells : List (Shown A)) (n : ℕ) (d : Shown A) → AllByRecursion Sized cells → n < length cells → wide_at (column_of n cells) (spread cells) ≡ wide (get_or cells n d)
   wide_stands [] n d h l = absurd (omega arith)
   wide_stands (c ∷ cs) zero d h l = refl
   wide_stands (c ∷ cs) (suc n) d h l = wide_behind c (spread cs) (column_of n cs) (two c h.0) ∙ wide_stands cs n d h.1 (omega arith)
 
-  pub seconds : (cells : List (Shown A)) (n : ℕ) (d : Shown A) → All Sized cells → n < length cells → inside (column_of n cells + 1) (spread cells) ≡ wide (get_or cells n d)
+  pub seconds : (cells : List (Shown A)) (n : ℕ) (d : Shown A) → AllByRecursion Sized cells → n < length cells → inside (column_of n cells + 1) (spread cells) ≡ wide (get_or cells n d)
   seconds cells n d h l = ap (λ i. inside i (spread cells)) (add-one (column_of n cells)) ∙ wide_stands cells n d h l

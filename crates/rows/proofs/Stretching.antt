@@ -1,6 +1,6 @@
 -- Stretches are a cutting, each of one type, neighbours of unlike types; and no other cutting is.
 use Rattle.std.proofs.Common.{◌≡◌, ◌<◌, Bool, true, false, List, [], ◌∷◌, ◌++◌, length, sym, refl, ap, ◌∙◌, subst, ⊎_elim, arith}
-use Rattle.std.specs.List.{AllByRecursion as All}
+use Rattle.std.specs.List.{AllByRecursion}
 use Rattle.std.proofs.ByRecursion.{All-weaker}
 use Rattle.std.proofs.lemmas.Bool.{false≢true, cases_Bool}
 use Rattle.cells.specs.Cells.{Shown}
@@ -28,7 +28,7 @@ module _ {X : Type 0} (like : X → X → Bool) where
   lead_joins x [] = refl
   lead_joins x (r ∷ rows) = refl
 
-  lead_filled : (x : X) (rows : List (List X)) → All (λ r. 0 < length r) rows → All (λ r. 0 < length r) (lead x rows)
+  lead_filled : (x : X) (rows : List (List X)) → AllByRecursion (λ r. 0 < length r) rows → AllByRecursion (λ r. 0 < length r) (lead x rows)
   lead_filled x [] h = (omega arith, tt)
   lead_filled x (r ∷ rows) h = (omega arith, h.1)
 
@@ -105,7 +105,7 @@ module _ {A : Type 0} (k : Kind A) where
   stretches_by_type (c ∷ cs) = by_types c cs
 
   -- a row of one type before stretches of which the first is of another is the next stretch
-  row_settles : (c : Shown A) (row : List (Shown A)) (rows : List (List (Shown A))) → All (λ r. 0 < length r) rows → ByType k ((c ∷ row) ∷ rows)
+  row_settles : (c : Shown A) (row : List (Shown A)) (rows : List (List (Shown A))) → AllByRecursion (λ r. 0 < length r) rows → ByType k ((c ∷ row) ∷ rows)
       → rows ≡ stretches (one_type k) (joined rows) → (c ∷ row) ∷ rows ≡ stretches (one_type k) (c ∷ (row ++ joined rows))
   row_settles c [] [] filled h e = refl
   row_settles c [] ([] ∷ rows) filled h e = absurd (omega (arith, filled.0))
@@ -120,7 +120,7 @@ module _ {A : Type 0} (k : Kind A) where
       let i = row_settles d row rows filled g e in
       ap (lead c) i ∙ sym (goes_on (one_type k) c d (row ++ joined rows) (one_from_alike c d (sym same)))
 
-  pub settled : (rows : List (List (Shown A))) → All (λ r. 0 < length r) rows → ByType k rows → rows ≡ stretches (one_type k) (joined rows)
+  pub settled : (rows : List (List (Shown A))) → AllByRecursion (λ r. 0 < length r) rows → ByType k rows → rows ≡ stretches (one_type k) (joined rows)
   settled [] filled h = refl
   settled ([] ∷ rows) filled h = absurd (omega (arith, filled.0))
   settled ((c ∷ row) ∷ rows) filled h =

@@ -1,13 +1,13 @@
 -- What is left out at the end: all of it fails the test, and what is left ends with one that passes.
 use Rattle.std.proofs.Common.{◌≡◌, ℕ, Bool, true, false, ◌||◌, List, [], ◌∷◌, Some, sym, refl, ap, ◌∙◌, ⊎_elim, arith}
-use Rattle.std.specs.List.{AllByRecursion as All}
+use Rattle.std.specs.List.{AllByRecursion}
 use Rattle.std.proofs.lemmas.Bool.{false≢true, cases_Bool, or_parts}
 use Rattle.rows.specs.Lists.{last_of}
 use Rattle.rows.specs.Trims.{any, up_to_last}
 use Rattle.rows.specs.WrapLaws.{Trimmed}
 
 module _ {X : Type 0} (p : X → Bool) where
-  pub none_pass : (xs : List X) → any p xs ≡ false → All (λ x. p x ≡ false) xs
+  pub none_pass : (xs : List X) → any p xs ≡ false → AllByRecursion (λ x. p x ≡ false) xs
   none_pass [] e = tt
   none_pass (x ∷ xs) e = let h = or_parts (p x) (any p xs) e in (h.0, none_pass xs h.1)
 

@@ -1,6 +1,6 @@
 -- Every edit keeps columns whole and within the capacity.
 use Rattle.std.proofs.Common.{◌≡◌, ℕ, zero, suc, ◌+◌, ◌-◌, ◌≤◌, min, Bool, true, false, cond, ◌&&◌, ltb, List, [], ◌∷◌, ◌++◌, map, length, take, drop, replicate, Some, None, Option, refl, ap, ◌∙◌, inl, inr, arith}
-use Rattle.std.specs.List.{AllByRecursion as All}
+use Rattle.std.specs.List.{AllByRecursion}
 use Rattle.std.proofs.lemmas.List.{length-append, length-take, length-drop, length-replicate}
 use Rattle.std.proofs.lemmas.Bool.{cases_Bool, ltb-true, ltb-false}
 use Rattle.cells.specs.Cells.{Shown, plain_blank, is_plain}
@@ -110,7 +110,7 @@ two_piece p a t Wide e =
       ],
     )
 
-sized_texts : {A : Type 0} (p : Splits) (a : A) (ts : List (List ℕ)) → All Sized (map (cell_of p a) ts)
+sized_texts : {A : Type 0} (p : Splits) (a : A) (ts : List (List ℕ)) → AllByRecursion Sized (map (cell_of p a) ts)
 sized_texts p a [] = tt
 sized_texts p a (t ∷ ts) = (sized (cell_of p a t) (two_piece p a t (p.width (clean t)) refl), sized_texts p a ts)
 
@@ -119,7 +119,7 @@ or_none (Some why) r e = let z : ◌≡◌ {A = ℕ} 0 1 = cc in absurd (omega a
 or_none None r e = e
 
 module _ {A : Type 0} (k : Kind A) (p : Splits) (room : Room) where
-  sized_brought : (c : Call A) → All Sized (given c) → All Sized (brings p c)
+  sized_brought : (c : Call A) → AllByRecursion Sized (given c) → AllByRecursion Sized (brings p c)
   sized_brought (Alter (FromText t a seqno)) h = sized_texts p a (pieces p.first t)
   sized_brought (Alter (SetCell x c seqno)) h = h
   sized_brought (Alter (InsertCell x c margin seqno)) h = h
@@ -137,11 +137,11 @@ module _ {A : Type 0} (k : Kind A) (p : Splits) (room : Room) where
   sized_brought Compact h = h
   sized_brought Expand h = h
 
-  pub sized_edit : (s : State A) (c : Call A) → All Sized (given c) → All Sized s.cells → All Sized (edit k p room s c).cells
+  pub sized_edit : (s : State A) (c : Call A) → AllByRecursion Sized (given c) → AllByRecursion Sized s.cells → AllByRecursion Sized (edit k p room s c).cells
   sized_edit s c g h = all_edit k Sized (λ a. refl) (λ on d e. e) p room s c (sized_brought c g) h
 
   -- whole columns within the capacity show cells within it
-  fits : (cols : List (Shown A)) → Whole cols → All Sized (shown cols) → length cols ≤ room.capacity → span (shown cols) ≤ room.capacity
+  fits : (cols : List (Shown A)) → Whole cols → AllByRecursion Sized (shown cols) → length cols ≤ room.capacity → span (shown cols) ≤ room.capacity
   fits cols w h l = let e = span_shown cols w h in omega arith
 
   within_set : (x : ℕ) (c : Shown A) (cols : List (Shown A)) → Sized c → length cols ≤ room.capacity → x + c.width ≤ room.capacity → length (set_columns k x c cols) ≤ room.capacity
@@ -152,7 +152,7 @@ module _ {A : Type 0} (k : Kind A) (p : Splits) (room : Room) where
       elim (ltb (length cols) x && is_plain k c) as (λ t. length (cond t cols (over x c (blanked x (padded k x cols)))) ≤ room.capacity)
       [ true ↦ l | false ↦ omega arith ]
 
-  pub within_edit : (s : State A) (c : Call A) → All Sized (given c) → All Sized s.cells → span s.cells ≤ room.capacity → (edit k p room s c).refusal ≡ None
+  pub within_edit : (s : State A) (c : Call A) → AllByRecursion Sized (given c) → AllByRecursion Sized s.cells → span s.cells ≤ room.capacity → (edit k p room s c).refusal ≡ None
       → span (edit k p room s c).cells ≤ room.capacity
   within_edit s (Alter (FromText t a seqno)) g h l e = ltb-false room.capacity (span (cells_of p a t)) (none_fits (text_refusals p room t a) e).1.1.0
   within_edit s (Alter (SetCell x c seqno)) g h l e =
@@ -224,24 +224,24 @@ module _ {A : Type 0} (k : Kind A) (p : Splits) (room : Room) where
   span_unless (Some why) xs ys l g = l
   span_unless None xs ys l g = g refl
 
-  fits_step : (s : State A) (c : Call A) → All Sized (given c) → Bounded room s.cells → Bounded room (step k p room s c).cells
+  fits_step : (s : State A) (c : Call A) → AllByRecursion Sized (given c) → Bounded room s.cells → Bounded room (step k p room s c).cells
   fits_step s c g f = record {
     sized = all_unless Sized (edit k p room s c).refusal s.cells (edit k p room s c).cells f.sized (λ e. sized_edit s c g f.sized);
     within = span_unless (edit k p room s c).refusal s.cells (edit k p room s c).cells f.within (within_edit s c g f.sized f.within);
   }
 
-  fits_after : (s : State A) (cs : List (Call A)) → All (λ c. All Sized (given c)) cs → Bounded room s.cells → Bounded room (after k p room s cs).cells
+  fits_after : (s : State A) (cs : List (Call A)) → AllByRecursion (λ c. AllByRecursion Sized (given c)) cs → Bounded room s.cells → Bounded room (after k p room s cs).cells
   fits_after s [] g f = f
   fits_after s (c ∷ cs) g f = fits_after (step k p room s c) cs g.1 (fits_step s c g.0 f)
 
-  fits_second : (cells : List (Shown A)) (idx : ℕ) → first_of (split_refusals room idx (spread cells)) ≡ None → All Sized cells → Bounded room (shown (drop idx (spread cells)))
+  fits_second : (cells : List (Shown A)) (idx : ℕ) → first_of (split_refusals room idx (spread cells)) ≡ None → AllByRecursion Sized cells → Bounded room (shown (drop idx (spread cells)))
   fits_second cells idx e h =
       let z = all_second k Sized (λ a. refl) (λ on d v. v) idx cells h in
       let b = length-drop idx (spread cells) in
       let m = ltb-false room.capacity (length (spread cells) - idx) (none_fits (split_refusals room idx (spread cells)) e).1.0 in
       record { sized = z; within = fits (drop idx (spread cells)) (whole_drop idx (spread cells) (whole_spread cells)) z (omega arith) }
 
-  fits_wrapped : (s : State A) (at width seqno : ℕ) → (wrap greedy k room at width seqno s).refusal ≡ None → All Sized s.cells → Bounded room (wrap greedy k room at width seqno s).cells
+  fits_wrapped : (s : State A) (at width seqno : ℕ) → (wrap greedy k room at width seqno s).refusal ≡ None → AllByRecursion Sized s.cells → Bounded room (wrap greedy k room at width seqno s).cells
   fits_wrapped s at width seqno e h = record {
     sized = all_wrap k Sized (λ a. refl) (λ on d v. v) greedy width at s.cells h;
     within = ltb-false room.capacity (span (wrap greedy k room at width seqno s).cells) (none_fits (wrap_refusals room at (wrapped greedy k width s.cells)) e).1.0;

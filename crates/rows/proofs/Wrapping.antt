@@ -1,6 +1,6 @@
 -- The laws of wrapping, put together.
 use Rattle.std.proofs.Common.{◌≡◌, ℕ, true, false, cond, not, ◌||◌, List, [], ◌∷◌, length, get_or, sym, refl, ap, ◌∙◌, arith}
-use Rattle.std.specs.List.{AllByRecursion as All}
+use Rattle.std.specs.List.{AllByRecursion}
 use Rattle.std.proofs.ByRecursion.{All-weaker}
 use Rattle.cells.specs.Cells.{Shown}
 use Rattle.cells.specs.Kinds.{Kind}
@@ -48,7 +48,7 @@ module _ {A : Type 0} where
   pub is_greedy : GreedyRows A
   is_greedy = record { proper = greedy_proper; least = λ k w cs e. rw (in_rows greedy k w cs e) (least k w cs) }
 
-  no_words : (cs : List (Shown A)) → All (λ c. is_space c.text ≡ true) cs → any no_space cs ≡ false
+  no_words : (cs : List (Shown A)) → AllByRecursion (λ c. is_space c.text ≡ true) cs → any no_space cs ≡ false
   no_words [] h = refl
   no_words (c ∷ cs) h = ap (λ b. not b || any no_space cs) h.0 ∙ no_words cs h.1
 

@@ -1,7 +1,7 @@
 -- Stretches turned into columns are in order and disjoint, and cover their cells.
 use Rattle.std.proofs.Common.{◌≡◌, ℕ, ◌+◌, ◌<◌, ◌≤◌, true, false, not, ◌||◌, ◌⊎◌, List, [], ◌∷◌, ◌++◌, map, length, take, sym, refl, ap, ◌∙◌, subst, inl, inr, ⊎_elim, append-nil, arith}
 use lib.Seq.{take-append_seam}
-use Rattle.std.specs.List.{AllByRecursion as All}
+use Rattle.std.specs.List.{AllByRecursion}
 use Rattle.std.proofs.ByRecursion.{All-weaker, All-map}
 use Rattle.std.proofs.lemmas.Bool.{cases_Bool}
 use Rattle.cells.specs.Cells.{Shown, is_plain}
@@ -19,11 +19,11 @@ use Rattle.rows.proofs.Stretching.{stretches_cutting, stretches_by_type, settled
 use Rattle.rows.proofs.Trimming.{trims}
 
 module _ {X : Type 0} where
-  all_left : (P : X → Type 0) (xs ys : List X) → All P (xs ++ ys) → All P xs
+  all_left : (P : X → Type 0) (xs ys : List X) → AllByRecursion P (xs ++ ys) → AllByRecursion P xs
   all_left P [] ys h = tt
   all_left P (x ∷ xs) ys h = (h.0, all_left P xs ys h.1)
 
-  all_right : (P : X → Type 0) (xs ys : List X) → All P (xs ++ ys) → All P ys
+  all_right : (P : X → Type 0) (xs ys : List X) → AllByRecursion P (xs ++ ys) → AllByRecursion P ys
   all_right P [] ys h = h
   all_right P (x ∷ xs) ys h = all_right P xs ys h.1
 
@@ -59,7 +59,7 @@ module _ {X : Type 0} where
 
 module _ {A : Type 0} where
   abbrev Solid : List (Shown A) → Type 0
-  Solid cs = All (λ c. 0 < c.width) cs
+  Solid cs = AllByRecursion (λ c. 0 < c.width) cs
 
   without_last_shorter : (row : List (Shown A)) → 0 < length row → Solid row → span (without_last row) < span row
   without_last_shorter [] some h = absurd (omega arith)
@@ -72,7 +72,7 @@ module _ {A : Type 0} where
   without_last_reaches (b ∷ (d ∷ before)) c mid = let i = without_last_reaches (d ∷ before) c mid in omega arith
 
 module _ {A : Type 0} (k : Kind A) where
-  zones_each : (rows : List (List (Shown A))) → All (λ z. z.first ≤ z.last) (in_columns k rows)
+  zones_each : (rows : List (List (Shown A))) → AllByRecursion (λ z. z.first ≤ z.last) (in_columns k rows)
   zones_each [] = tt
   zones_each (row ∷ rows) =
       (omega arith, All-map _ (moved (span row)) (in_columns k rows) (All-weaker (λ z. z.first ≤ z.last) _ (λ z h. omega arith) (in_columns k rows) (zones_each rows)))
@@ -83,7 +83,7 @@ module _ {A : Type 0} (k : Kind A) where
   abbrev Unlike : Zone → Zone → Type 0
   Unlike z next = z.semantic ≡ next.semantic → ⊥
 
-  zones_disjoint : (rows : List (List (Shown A))) → All (λ r. 0 < length r) rows → Solid (joined rows) → Neighbours Before (in_columns k rows)
+  zones_disjoint : (rows : List (List (Shown A))) → AllByRecursion (λ r. 0 < length r) rows → Solid (joined rows) → Neighbours Before (in_columns k rows)
   zones_disjoint [] filled solid = tt
   zones_disjoint (row ∷ []) filled solid = tt
   zones_disjoint (row ∷ (next ∷ rows)) filled solid =
@@ -102,7 +102,7 @@ module _ {A : Type 0} (k : Kind A) where
   abbrev Holds : List (Shown A) → Shown A → Zone → Type 0
   Holds before c z = HasColumn z (span before) × (z.semantic ≡ cell_type k c)
 
-  zones_cover : (rows : List (List (Shown A))) → All (λ row. All (λ c. cell_type k c ≡ type_of k row) row) rows
+  zones_cover : (rows : List (List (Shown A))) → AllByRecursion (λ row. AllByRecursion (λ c. cell_type k c ≡ type_of k row) row) rows
       → (before behind : List (Shown A)) (c : Shown A) → before ++ (c ∷ behind) ≡ joined rows → SomeOf (Holds before c) (in_columns k rows)
   zones_cover [] one [] behind c e = let z : ◌≡◌ {A = ℕ} 0 1 = cc in absurd (omega arith)
   zones_cover [] one (b ∷ before) behind c e = let z : ◌≡◌ {A = ℕ} 0 1 = cc in absurd (omega arith)
@@ -110,7 +110,7 @@ module _ {A : Type 0} (k : Kind A) where
       ⊎_elim
       (λ p.
       let same : p.0 ≡ c = cc p.3 in
-      let all = all_right (λ d. cell_type k d ≡ type_of k row) before (p.0 ∷ p.1) (subst (λ xs. All (λ d. cell_type k d ≡ type_of k row) xs) p.2 one.0) in
+      let all = all_right (λ d. cell_type k d ≡ type_of k row) before (p.0 ∷ p.1) (subst (λ xs. AllByRecursion (λ d. cell_type k d ≡ type_of k row) xs) p.2 one.0) in
       let f = without_last_reaches before p.0 p.1 in
       let g : span (without_last row) ≡ span (without_last (before ++ (p.0 ∷ p.1))) = ap (λ xs. span (without_last xs)) p.2 in
       inl ((omega arith, omega arith), sym all.0 ∙ ap (cell_type k) same))
@@ -120,7 +120,7 @@ module _ {A : Type 0} (k : Kind A) where
       (zones_cover rows one.1 p.0 behind c p.2)))
       (place row (joined rows) before (c ∷ behind) e)
 
-  zones_end : (rows : List (List (Shown A))) → All (λ r. 0 < length r) rows → Solid (joined rows) → All (λ z. z.last < span (joined rows)) (in_columns k rows)
+  zones_end : (rows : List (List (Shown A))) → AllByRecursion (λ r. 0 < length r) rows → Solid (joined rows) → AllByRecursion (λ z. z.last < span (joined rows)) (in_columns k rows)
   zones_end [] filled solid = tt
   zones_end (row ∷ rows) filled solid =
       let s = without_last_shorter row filled.0 (all_left (λ c. 0 < c.width) row (joined rows) solid) in
@@ -136,7 +136,7 @@ module _ {A : Type 0} (k : Kind A) where
   kept_whole : (cs : List (Shown A)) → any (not_plain k) cs ≡ false → kept k cs ≡ cs
   kept_whole cs e = rw e
 
-  all_plain : (cs : List (Shown A)) → All (λ c. is_plain k c ≡ true) cs → any (not_plain k) cs ≡ false
+  all_plain : (cs : List (Shown A)) → AllByRecursion (λ c. is_plain k c ≡ true) cs → any (not_plain k) cs ≡ false
   all_plain [] h = refl
   all_plain (c ∷ cs) h = ap (λ b. not b || any (not_plain k) cs) h.0 ∙ all_plain cs h.1
 

@@ -5,7 +5,7 @@
 -- Packer      a store's rule refuses with 10 or 11 only
 -- KeepingTo  the cells of such a row are pieces, so that compaction refuses with 10 or 11 only
 use Rattle.std.specs.Prelude.{◌≡◌, ℕ, true, ◌⊎◌, List, length, Some, Option}
-use Rattle.std.specs.List.{AllByRecursion as All}
+use Rattle.std.specs.List.{AllByRecursion}
 use Rattle.cells.specs.Cells.{Shown}
 use Rattle.cells.specs.Kinds.{Kind}
 use Rattle.cells.specs.declared.refusal.Refusal.{Refusal}
@@ -46,8 +46,8 @@ abbrev pub Packer : {A : Type 0} → (List (Shown A) → Shown A → Option Refu
 Packer {A} rule = (cells : List (Shown A)) (c : Shown A) → TenOrEleven (rule cells c)
 
 pub record KeepingTo {A : Type 0} (k : Kind A) (p : Splits) : Type 0 where
-  pub calls : (room : Room) (n : ℕ) (cs : List (Call A)) → All (Likewise k p) cs → Made k p (after k p room (new_row n) cs)
-  pub pieces : (s : State A) → Made k p s → All (Piece p) s.cells
+  pub calls : (room : Room) (n : ℕ) (cs : List (Call A)) → AllByRecursion (Likewise k p) cs → Made k p (after k p room (new_row n) cs)
+  pub pieces : (s : State A) → Made k p s → AllByRecursion (Piece p) s.cells
   pub compacts : (s : State A) (rule : List (Shown A) → Shown A → Option Refusal) → Made k p s → Packer rule → TenOrEleven (compaction p rule s.cells)
   pub runs : (runs bytes : ℕ) → Packer (run_rule k p runs bytes)
 

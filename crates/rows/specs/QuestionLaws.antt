@@ -6,7 +6,7 @@
 -- Places       a cell's column is how many columns are before it; a range whose start is not below its end holds no text
 -- Written      memory that suffices holds what was written and then its rest; memory that does not is refused by 9 and stays as it was
 use Rattle.std.specs.Prelude.{◌≡◌, ℕ, ◌<◌, ◌≤◌, true, ◌⊎◌, List, [], ◌++◌, map, length, drop, Ok, Err, Decides}
-use Rattle.std.specs.List.{AllZip, AllByRecursion as All}
+use Rattle.std.specs.List.{AllZip, AllByRecursion}
 use Rattle.cells.specs.Cells.{Shown, Equal}
 use Rattle.cells.specs.Kinds.{Kind}
 use Rattle.cells.specs.declared.refusal.Refusal.TheVariants.{TooSmall}
@@ -30,7 +30,7 @@ pub record Equivalence (A : Type 0) : Type 0 where
   pub transitive : (k : Kind A) (r s t : State A) → equal_rows k r s ≡ true → equal_rows k s t ≡ true → equal_rows k r t ≡ true
 
 abbrev pub Exact : Type 0 → Type 0
-Exact A = (k : Kind A) (s t : State A) → All OneOrTwo s.cells → All OneOrTwo t.cells → Decides (equal_rows k s t) (EqualRows s t)
+Exact A = (k : Kind A) (s t : State A) → AllByRecursion OneOrTwo s.cells → AllByRecursion OneOrTwo t.cells → Decides (equal_rows k s t) (EqualRows s t)
 
 pub record Places (A : Type 0) : Type 0 where
   pub columns : (before behind : List (Shown A)) → placed (before ++ behind) ≡ placed before ++ map (further (span before)) (placed behind)

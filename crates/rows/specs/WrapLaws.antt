@@ -12,7 +12,7 @@
 --              the second row gets the number given, where a cell is no space
 -- Answers      that is so of each call
 use Rattle.std.specs.Prelude.{◌≡◌, ℕ, ◌<◌, ◌≤◌, Bool, true, false, List, [], ◌++◌, length, Some, None, slice_index_or}
-use Rattle.std.specs.List.{AllByRecursion as All}
+use Rattle.std.specs.List.{AllByRecursion}
 use Rattle.cells.specs.Cells.{Shown}
 use Rattle.cells.specs.Kinds.{Kind}
 use Rattle.cells.specs.Words.{is_space}
@@ -26,7 +26,7 @@ use Rattle.rows.specs.Wraps.{trimmed, Cut, Proper, greedy, flag_ends, wrapped, w
 pub record Trimmed {X : Type 0} (test : X → Bool) (xs kept : List X) : Type 0 where
   pub dropped : List X
   pub joins : kept ++ dropped ≡ xs
-  pub fail : All (λ x. test x ≡ false) dropped
+  pub fail : AllByRecursion (λ x. test x ≡ false) dropped
   pub ends : (x : X) → last_of kept ≡ Some x → test x ≡ true
   pub some : any test xs ≡ true → 0 < length kept
 
@@ -37,14 +37,14 @@ pub record Rejoined {A : Type 0} (k : Kind A) (width : ℕ) (cs : List (Shown A)
   pub rows : List (List (Shown A))
   pub cutting : Cutting (trimmed cs) rows
   pub flags : wraps ≡ flag_ends k rows
-  pub fits : All (FitsOrOne width) wraps
+  pub fits : AllByRecursion (FitsOrOne width) wraps
 
 abbrev pub Rejoins : Type 0 → Type 0
 Rejoins A = (cut : Cut A) → Proper cut → (k : Kind A) (width : ℕ) (cs : List (Shown A)) → any no_space cs ≡ true
     → Rejoined k width cs (wrapped cut k width cs)
 
 pub record Least {A : Type 0} (k : Kind A) (width : ℕ) (cs : List (Shown A)) (wraps : List (List (Shown A))) : Type 0 where
-  pub fewest : (rows : List (List (Shown A))) → Cutting (trimmed cs) rows → All (FitsOrOne width) rows → length wraps ≤ length rows
+  pub fewest : (rows : List (List (Shown A))) → Cutting (trimmed cs) rows → AllByRecursion (FitsOrOne width) rows → length wraps ≤ length rows
   pub breaks : Breaks width wraps
   pub only : (rows : List (List (Shown A))) → Cutting (trimmed cs) rows → Breaks width rows → wraps ≡ flag_ends k rows
 
@@ -58,7 +58,7 @@ pub record Unchanged {A : Type 0} (s : State A) (count : ℕ) (second : Edit A) 
   pub number : second.number ≡ s.number
 
 abbrev pub Alone : Type 0 → Type 0
-Alone A = (cut : Cut A) (k : Kind A) (room : Room) (width seqno : ℕ) (s : State A) → All (λ c. is_space c.text ≡ true) s.cells
+Alone A = (cut : Cut A) (k : Kind A) (room : Room) (width seqno : ℕ) (s : State A) → AllByRecursion (λ c. is_space c.text ≡ true) s.cells
     → Unchanged s (wrap_count cut k width s.cells) (wrap cut k room 0 width seqno s)
 
 pub record Answered {A : Type 0} (room : Room) (at seqno : ℕ) (s : State A) (rows : List (List (Shown A))) (second : Edit A) : Type 0 where

@@ -1,7 +1,7 @@
 -- Cells are read back from their texts, bits and runs.
 use Rattle.std.specs.Prelude.{◌≡◌, ℕ, zero, suc, ◌+◌, ◌-◌, ◌<◌, ◌≤◌, Bool, true, false, cond, not, ◌&&◌, ◌||◌, ◌⊎◌, List, [], ◌∷◌, ◌++◌, map, length, Some, None, Ok, Err, Option, Result, ◌==◌, nat_eq, nat_lt, refl}
 use Rattle.std.proofs.Common.{sym, ap, ◌∙◌, subst, inl, inr, ⊎_elim, arith}
-use Rattle.std.specs.List.{AllByRecursion as All}
+use Rattle.std.specs.List.{AllByRecursion}
 use Rattle.std.proofs.lemmas.List.{length-append}
 use Rattle.std.proofs.lemmas.Bool.{cases_order, cases_Bool, ltb-false, le-ltb, cond-true, cond-false, true≢false, false≢true, eq-eqb, ne_eqb, eqb-true}
 use Rattle.cells.specs.Cells.{Shown, meaning, blank_with}
@@ -62,7 +62,7 @@ module _ {A : Type 0} where
         sized = b;
       }
 
-  pub all_sized : (cs : List (Shown A)) → All Worded cs → All Sized cs
+  pub all_sized : (cs : List (Shown A)) → AllByRecursion Worded cs → AllByRecursion Sized cs
   all_sized [] h = tt
   all_sized (c ∷ cs) h = ((word c h.0).sized, all_sized cs h.1)
 
@@ -76,7 +76,7 @@ module _ {A : Type 0} where
       ∙ ap (λ (x : Bool). verdict (first_of ((x, TooLong) ∷ (bad_width t w, BadWidth) ∷ [])) (record { text = t; width = w })) (le-ltb 7 (length t) (text_length c.text.word))
       ∙ ap (λ (x : Bool). verdict (first_of ((x, BadWidth) ∷ [])) (record { text = t; width = w })) c.text.narrow
 
-  shows_worded : (p : List ℕ) (w : ℕ) (o : Result Text Refusal) (a : A) (rest : List (Shown A)) → made (clean p) w ≡ o → All Worded rest → All Worded (shows o a rest)
+  shows_worded : (p : List ℕ) (w : ℕ) (o : Result Text Refusal) (a : A) (rest : List (Shown A)) → made (clean p) w ≡ o → AllByRecursion Worded rest → AllByRecursion Worded (shows o a rest)
   shows_worded p w (Err why) a rest e h = tt
   shows_worded p w (Ok t) a rest e h =
       let u : record { text = clean p; width = w } ≡ t = (unmade (first_of (word_refusals (clean p) w)) (record { text = clean p; width = w }) t e).1 in
@@ -84,7 +84,7 @@ module _ {A : Type 0} where
       (subst (λ (x : Text). made (clean x.text) x.width ≡ Ok (record { text = x.text; width = x.width })) u m, h)
 
   -- and so is every cell that is read
-  pub dress_worded : (bits : ℕ → Bool) (ps : List (List ℕ)) (x : ℕ) (rs : List (Run A)) → All Worded (dress bits ps x rs)
+  pub dress_worded : (bits : ℕ → Bool) (ps : List (List ℕ)) (x : ℕ) (rs : List (Run A)) → AllByRecursion Worded (dress bits ps x rs)
   dress_worded bits [] x rs = tt
   dress_worded bits (p ∷ ps) x [] = tt
   dress_worded bits (p ∷ ps) x (r ∷ rs) =
@@ -134,7 +134,7 @@ module _ {A : Type 0} where
     one zero = refl
     one (suc j) = refl
 
-  pub wide_push : (cs : List (Shown A)) (c : Shown A) → All Sized cs → (k : ℕ)
+  pub wide_push : (cs : List (Shown A)) (c : Shown A) → AllByRecursion Sized cs → (k : ℕ)
       → wide_at k (spread (cs ++ (c ∷ []))) ≡ cond (k == span cs) (wide c) (wide_at k (spread cs))
   wide_push cs c h k =
       let l : length (spread cs) ≡ span cs = length_spread cs h in
@@ -148,12 +148,12 @@ module _ {A : Type 0} where
       ∙ sym (cond-false (k == span cs) (wide c) (wide_at k (spread cs)) (ne_eqb k (span cs) (λ q. omega arith)) ∙ wide_past (spread cs) k (omega arith))))
       (cases_order k (span cs))
 
-  span_some : (cs : List (Shown A)) → All Sized cs → 0 < length cs → 0 < span cs
+  span_some : (cs : List (Shown A)) → AllByRecursion Sized cs → 0 < length cs → 0 < span cs
   span_some [] h l = absurd (omega arith)
   span_some (c ∷ cs) h l = let w = width_more c h.0 in omega arith
 
   -- in the last column no wide cell starts
-  last_narrow : (cs : List (Shown A)) → All Sized cs → wide_at (span cs - 1) (spread cs) ≡ false
+  last_narrow : (cs : List (Shown A)) → AllByRecursion Sized cs → wide_at (span cs - 1) (spread cs) ≡ false
   last_narrow [] h = refl
   last_narrow (c ∷ []) h = alone c (two c h.0) where
     alone : (c : Shown A) → Two c → wide_at (c.width + 0 - 1) (columns_of c ++ []) ≡ false
@@ -165,7 +165,7 @@ module _ {A : Type 0} where
       ap (λ (n : ℕ). wide_at n (spread (c ∷ (d ∷ cs)))) e ∙ wide_behind c (spread (d ∷ cs)) (span (d ∷ cs) - 1) h.0 ∙ last_narrow (d ∷ cs) h.1
 
   -- whether the last cell is wide shows two columns before the end
-  last_two : (cs : List (Shown A)) (c : Shown A) → All Sized cs → Two c → wide_at (span cs + c.width - 2) (spread (cs ++ (c ∷ []))) ≡ wide c
+  last_two : (cs : List (Shown A)) (c : Shown A) → AllByRecursion Sized cs → Two c → wide_at (span cs + c.width - 2) (spread (cs ++ (c ∷ []))) ≡ wide c
   last_two cs c h (inr e) =
       let f : span cs + c.width - 2 ≡ span cs = omega (arith, e.0) in
       ap (λ (n : ℕ). wide_at n (spread (cs ++ (c ∷ [])))) f ∙ wide_push cs c h (span cs) ∙ cond-true (span cs == span cs) _ _ (eq-eqb (span cs) (span cs) refl)
@@ -179,7 +179,7 @@ module _ {A : Type 0} where
         both true = refl
         both false = refl
 
-  pub last_wide : (cs : List (Shown A)) (c : Shown A) → All Sized cs → Sized c → wide_at (span cs + c.width - 2) (spread (cs ++ (c ∷ []))) ≡ wide c
+  pub last_wide : (cs : List (Shown A)) (c : Shown A) → AllByRecursion Sized cs → Sized c → wide_at (span cs + c.width - 2) (spread (cs ++ (c ∷ []))) ≡ wide c
   last_wide cs c h q = last_two cs c h (two c q)
 
   -- ---- reading back
@@ -188,7 +188,7 @@ module _ {A : Type 0} where
   Marked bits x [] = Unit {0}
   Marked bits x (c ∷ cs) = (width_by (bits x) ≡ c.width) × Marked bits (x + c.width) cs
 
-  pub marked_wide : (bits : ℕ → Bool) (x : ℕ) (cs : List (Shown A)) → All Sized cs → ((j : ℕ) → bits (x + j) ≡ wide_at j (spread cs)) → Marked bits x cs
+  pub marked_wide : (bits : ℕ → Bool) (x : ℕ) (cs : List (Shown A)) → AllByRecursion Sized cs → ((j : ℕ) → bits (x + j) ≡ wide_at j (spread cs)) → Marked bits x cs
   marked_wide bits x [] h f = tt
   marked_wide bits x (c ∷ cs) h f =
       let z : x + 0 ≡ x = omega arith in (
@@ -207,7 +207,7 @@ module _ {A : Type 0} where
         [ true ↦ refl | false ↦ refl ]
 
     -- cells are read back from their texts, bits and stretches
-    pub read_back : (bits : ℕ → Bool) (x : ℕ) (cs : List (Shown A)) → All Worded cs → Marked bits x cs → dress bits (texts cs) x (stretches k cs) ≡ cs
+    pub read_back : (bits : ℕ → Bool) (x : ℕ) (cs : List (Shown A)) → AllByRecursion Worded cs → Marked bits x cs → dress bits (texts cs) x (stretches k cs) ≡ cs
     read_back bits x [] w m = refl
     read_back bits x (c ∷ cs) w m =
         dress_join bits c.text (texts cs) x c.attrs (stretches k cs)

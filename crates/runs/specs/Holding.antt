@@ -1,7 +1,7 @@
 -- Memory that holds cells: what is held is read back, one more cell, and one fewer.
 use Rattle.std.specs.Prelude.{◌≡◌, ℕ, zero, suc, ◌+◌, ◌-◌, ◌<◌, ◌≤◌, Bool, true, false, cond, not, ◌||◌, ◌⊎◌, List, [], ◌∷◌, ◌++◌, map, length, take, drop, Some, None, vec_items, Option, ◌==◌, nat_lt, refl}
 use Rattle.std.proofs.Common.{sym, ap, ◌∙◌, subst, inl, inr, ⊎_elim, arith}
-use Rattle.std.specs.List.{AllByRecursion as All}
+use Rattle.std.specs.List.{AllByRecursion}
 use Rattle.std.proofs.ByRecursion.{All-push}
 use Rattle.std.proofs.lemmas.List.{length-append, length_push, map_push, drop_at, append-nil, append_cancel_right, take-append-drop}
 use Rattle.std.proofs.lemmas.Bool.{cond-true, cond-false, ltb-false, eqb-true, not-false, or_parts, or_left, or_right, lt-ltb, le-ltb, eq-eqb, ne_eqb, cases_eq}
@@ -88,15 +88,15 @@ module _ {A : Type 0} where
   pub span_push : (cs : List (Shown A)) (c : Shown A) → span (cs ++ (c ∷ [])) ≡ span cs + c.width
   span_push cs c = let e = span_append cs (c ∷ []) in omega arith
 
-  pub count_span : (cs : List (Shown A)) → All Sized cs → length cs ≤ span cs
+  pub count_span : (cs : List (Shown A)) → AllByRecursion Sized cs → length cs ≤ span cs
   count_span [] h = omega arith
   count_span (c ∷ cs) h = let e = count_span cs h.1 in let w = width_more c h.0 in omega arith
 
-  all_front : (P : Shown A → Type 0) (cs : List (Shown A)) (c : Shown A) → All P (cs ++ (c ∷ [])) → All P cs × P c
+  all_front : (P : Shown A → Type 0) (cs : List (Shown A)) (c : Shown A) → AllByRecursion P (cs ++ (c ∷ [])) → AllByRecursion P cs × P c
   all_front P [] c h = (tt, h.0)
   all_front P (d ∷ cs) c h = let r = all_front P cs c h.1 in ((h.0, r.0), r.1)
 
-  last_few : (cs : List (Shown A)) → All Worded cs → length (last_text cs) ≤ 7
+  last_few : (cs : List (Shown A)) → AllByRecursion Worded cs → length (last_text cs) ≤ 7
   last_few [] h = omega arith
   last_few (c ∷ []) h = (word c h.0).few
   last_few (c ∷ (d ∷ cs)) h = last_few (d ∷ cs) h.1
@@ -114,7 +114,7 @@ module _ {A : Type 0} where
     fuses_by (d ∷ (e ∷ cs)) c l = fuses_by (e ∷ cs) c (omega arith)
 
     pub last_short : (t : List ℕ) (last count : ℕ) (ws : List ℕ) (rs : List (Run A)) (cs : List (Shown A))
-        → Holds p t last count ws rs cs → All Worded cs → length (drop last t) ≤ 7
+        → Holds p t last count ws rs cs → AllByRecursion Worded cs → length (drop last t) ≤ 7
     last_short t last count ws rs cs h w = subst (λ (u : List ℕ). length u ≤ 7) (sym h.ended) (last_few cs w)
 
     bytes_held : (t : List ℕ) (cs : List (Shown A)) → pieces p.first t ≡ texts cs → bytes_needed cs ≡ length t
@@ -131,19 +131,19 @@ module _ {A : Type 0} where
         runs_length k (cs ++ (c ∷ [])) ∙ ap length (stretches_push k cs c ∙ ap (λ u. extend k u c.attrs) (sym (alike k rs (stretches k cs) e)))
 
     -- every cell that a run store shows has a width that its text may have
-    pub sound_sized : (s : ClusteredLine A) → All Sized (cells p s)
+    pub sound_sized : (s : ClusteredLine A) → AllByRecursion Sized (cells p s)
     sound_sized s =
         all_sized (cells p s) (dress_worded (bits_of s.wide) (pieces p.first (vec_items s.text)) 0 (vec_items s.runs))
 
     -- what is held is read back
     pub held_back : (k : Kind A) (t : List ℕ) (last count : ℕ) (ws : List ℕ) (rs : List (Run A)) (cs : List (Shown A))
-        → Holds p t last count ws rs cs → All Worded cs → dress (bits_of ws) (pieces p.first t) 0 rs ≡ cs
+        → Holds p t last count ws rs cs → AllByRecursion Worded cs → dress (bits_of ws) (pieces p.first t) 0 rs ≡ cs
     held_back k t last count ws rs cs h w =
         ap (λ ps. dress (bits_of ws) ps 0 rs) h.split ∙ ap (dress (bits_of ws) (texts cs) 0) (alike k rs (stretches k cs) (h.even k))
         ∙ read_back k (bits_of ws) 0 cs w (marked_wide (bits_of ws) 0 cs (all_sized cs w) (λ j. let e : 0 + j ≡ j = omega arith in ap (bits_of ws) e ∙ h.marked j))
 
     pub held_as : (k : Kind A) (t : List ℕ) (last count : ℕ) (ws : List ℕ) (rs : List (Run A)) (cs : List (Shown A))
-        → Holds p t last count ws rs cs → All Worded cs → Holds p t last count ws rs (dress (bits_of ws) (pieces p.first t) 0 rs)
+        → Holds p t last count ws rs cs → AllByRecursion Worded cs → Holds p t last count ws rs (dress (bits_of ws) (pieces p.first t) 0 rs)
     held_as k t last count ws rs cs h w = subst (λ (u : List (Shown A)). Holds p t last count ws rs u) (sym (held_back k t last count ws rs cs h w)) h
 
     -- ---- what sound memory is like
@@ -183,7 +183,7 @@ module _ {A : Type 0} where
 
     -- ---- one more cell
     pub pushed : (k : Kind A) (t : List ℕ) (last count : ℕ) (ws ws' : List ℕ) (rs : List (Run A)) (cs : List (Shown A)) (c : Shown A)
-        → Holds p t last count ws rs cs → All Worded cs → Worded c
+        → Holds p t last count ws rs cs → AllByRecursion Worded cs → Worded c
         → p.good c.text ≡ true → p.first c.text ≡ length c.text → fuses p cs c ≡ false
         → ((i : ℕ) → bits_of ws' i ≡ cond (i == count + ones_in ws) (wide c) (bits_of ws i))
         → ones_in ws' + cond (bits_of ws (count + ones_in ws)) 1 0 ≡ ones_in ws + cond (wide c) 1 0
@@ -212,7 +212,7 @@ module _ {A : Type 0} where
 
     -- ---- one fewer
     pub dropped : (k : Kind A) (t : List ℕ) (last last' count : ℕ) (ws ws' : List ℕ) (rs : List (Run A)) (cs : List (Shown A)) (c : Shown A) (x : ℕ)
-        → Holds p t last count ws rs (cs ++ (c ∷ [])) → All Worded (cs ++ (c ∷ [])) → x ≡ span cs
+        → Holds p t last count ws rs (cs ++ (c ∷ [])) → AllByRecursion Worded (cs ++ (c ∷ [])) → x ≡ span cs
         → ((i : ℕ) → bits_of ws' i ≡ cond (i == x) false (bits_of ws i))
         → ones_in ws' + cond (bits_of ws x) 1 0 ≡ ones_in ws
         → drop last' (take last t) ≡ last_piece (pieces p.first (take last t))
@@ -295,7 +295,7 @@ module _ {A : Type 0} where
         × (dress (bits_of ws') (pieces p.first t') 0 rs' ≡ dress (bits_of ws) (pieces p.first t) 0 rs ++ (c ∷ []))
     took k most bytes t last count ws ws' rs c t' last' x on rs' h wc a et el er ex eon eb eo =
         let cs : List (Shown A) = dress (bits_of ws) (pieces p.first t) 0 rs in
-        let w : All Worded cs = dress_worded (bits_of ws) (pieces p.first t) 0 rs in
+        let w : AllByRecursion Worded cs = dress_worded (bits_of ws) (pieces p.first t) 0 rs in
         let eb1 : (i : ℕ) → bits_of ws' i ≡ cond (i == count + ones_in ws) (wide c) (bits_of ws i) =
         λ i. eb i ∙ ap (λ (y : ℕ). cond (i == y) on (bits_of ws i)) ex ∙ ap (λ (v : Bool). cond (i == count + ones_in ws) v (bits_of ws i)) eon in
         let eo1 : ones_in ws' + cond (bits_of ws (count + ones_in ws)) 1 0 ≡ ones_in ws + cond (wide c) 1 0 =
@@ -306,7 +306,7 @@ module _ {A : Type 0} where
         subst (λ (u : List ℕ). Holds p u last' (count + 1) ws' rs' (cs ++ (c ∷ []))) (sym et)
         (subst (λ (u : ℕ). Holds p (t ++ c.text) u (count + 1) ws' rs' (cs ++ (c ∷ []))) (sym el)
         (subst (λ (u : List (Run A)). Holds p (t ++ c.text) (length t) (count + 1) ws' u (cs ++ (c ∷ []))) (sym er) h1)) in
-        let wn : All Worded (cs ++ (c ∷ [])) = All-push Worded cs c w wc in
+        let wn : AllByRecursion Worded (cs ++ (c ∷ [])) = All-push Worded cs c w wc in
         (held_as k t' last' (count + 1) ws' rs' (cs ++ (c ∷ [])) h2 wn, held_back k t' last' (count + 1) ws' rs' (cs ++ (c ∷ [])) h2 wn)
 
     -- the last cell goes, and the others are read back
@@ -326,7 +326,7 @@ module _ {A : Type 0} where
         let c : Shown A = sp.0 in
         let e : all ≡ cs ++ (c ∷ []) = sp.1 in
         let hs : Holds p t last count ws rs (cs ++ (c ∷ [])) = subst (λ (u : List (Shown A)). Holds p t last count ws rs u) e h in
-        let w : All Worded (cs ++ (c ∷ [])) = subst (λ (u : List (Shown A)). All Worded u) e (dress_worded (bits_of ws) (pieces p.first t) 0 rs) in
+        let w : AllByRecursion Worded (cs ++ (c ∷ [])) = subst (λ (u : List (Shown A)). AllByRecursion Worded u) e (dress_worded (bits_of ws) (pieces p.first t) 0 rs) in
         let wf = all_front Worded cs c w in
         let q = (word c wf.1).sized in
         let sc = all_sized cs wf.0 in
@@ -353,7 +353,7 @@ module _ {A : Type 0} where
         let c : Shown A = sp.0 in
         let e : all ≡ cs ++ (c ∷ []) = sp.1 in
         let hs : Holds p t last count ws rs (cs ++ (c ∷ [])) = subst (λ (u : List (Shown A)). Holds p t last count ws rs u) e h in
-        let w : All Worded (cs ++ (c ∷ [])) = subst (λ (u : List (Shown A)). All Worded u) e (dress_worded (bits_of ws) (pieces p.first t) 0 rs) in
+        let w : AllByRecursion Worded (cs ++ (c ∷ [])) = subst (λ (u : List (Shown A)). AllByRecursion Worded u) e (dress_worded (bits_of ws) (pieces p.first t) 0 rs) in
         let wf = all_front Worded cs c w in
         let q = (word c wf.1).sized in
         let sn = span_push cs c in

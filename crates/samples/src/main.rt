@@ -5,7 +5,7 @@ ghost use Rattle.cells.specs.Kinds.{Kind};
 ghost use Rattle.std.specs.Prelude.{◌≡◌, [], ◌∷◌};
 ghost use Rattle.rows.specs.Edits.{from_text};
 ghost use Rattle.rows.specs.Samples.{Samples, gives};
-ghost use Rattle.rows.specs.WrapSamples.{aWb, room};
+ghost use Rattle.rows.specs.WrapSamples.{a_wide_b, room};
 ghost use Rattle.utf8.specs.Utf8.{utf8_splits};
 
 use cells::attributes::Attributes;
@@ -17,7 +17,7 @@ use utf8::Utf8;
 /// For every kind of attributes `K`, with the UTF-8 splitter.
 pub fn samples_in_utf8<K>() -> u8
     ensures rows { (k : Kind K) → Samples k utf8_splits }
-    ensures text { (k : Kind K) → from_text utf8_splits (room 80) (0x61 ∷ 0xe4 ∷ 0xb8 ∷ 0xad ∷ 0x62 ∷ []) k.blank 9 ≡ gives (aWb k) }
+    ensures text { (k : Kind K) → from_text utf8_splits (room 80) (0x61 ∷ 0xe4 ∷ 0xb8 ∷ 0xad ∷ 0x62 ∷ []) k.blank 9 ≡ gives (a_wide_b k) }
 {
     0
 }

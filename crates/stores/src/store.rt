@@ -1,6 +1,6 @@
 //! A store: a list of shown cells of at most 4,096 columns, and a number that its own calls leave. docs/STORES.md has its laws.
 ghost use Rattle.std.specs.Prelude.{◌≡◌, ℕ, ◌≤◌, List, Ok, Option};
-ghost use Rattle.std.specs.List.{AllByRecursion as All, slice_get};
+ghost use Rattle.std.specs.List.{AllByRecursion, slice_get};
 ghost use Rattle.cells.specs.Cells.{Shown, meaning};
 ghost use Rattle.cells.specs.declared.refusal.Refusal.{Refusal};
 ghost use Rattle.rows.specs.Lists.{span};
@@ -71,7 +71,7 @@ pub trait Store {
 
     ghost within: { (s : Self) → span (row s).cells ≤ most_columns };
 
-    ghost sized: { (s : Self) → All Sized (row s).cells };
+    ghost sized: { (s : Self) → AllByRecursion Sized (row s).cells };
 
     /// Taking is refused as 10 or 11.
     ghost packer: { (sizes : List ℕ) → Packer (rule sizes) };

@@ -4,8 +4,8 @@ use Rattle.splitters.specs.Reading.{part_of, left}
 use Rattle.gauge.proofs.Counted.{Counts, room, parts_length}
 use Rattle.gauge.proofs.measuring.measure.Goals as goal
 
-pub with-piece-tally-requires : goal.with-piece-tally-requires
-with-piece-tally-requires g c =
+pub with_piece-tally-requires : goal.with_piece-tally-requires
+with_piece-tally-requires g c =
     let p = g.P.Splitter.splits in
     let t = c.args.text.now in
     let all = parts p.first 0 t in
