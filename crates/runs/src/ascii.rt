@@ -81,11 +81,11 @@ impl<A: Attributes> Store for AsciiClusteredLine<A> {
 
     ghost left = { λ s. left_at ascii s.held };
 
-    ghost within = { first_of (Prim.search rules, Prim.grind (arith, Self.row.coded.inj)) };
+    ghost within = { Prim.search rules };
 
     ghost sized = { λ s. sound_sized ascii s.held };
 
-    ghost packer = { first_of (Prim.search rules, Prim.grind (arith, Self.row.coded.inj)) };
+    ghost packer = { Prim.search rules };
 
     fn len(&self) -> usize {
         reading::len::<Ascii, A>(&self.held)

@@ -13,4 +13,4 @@ mod reading;
 pub mod run;
 mod taking;
 mod texts;
-pub mod utf8;
+pub mod utf8line;

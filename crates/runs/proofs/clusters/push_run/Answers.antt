@@ -5,8 +5,8 @@ use Rattle.runs.specs.Stretching.{extend_none, extend_like, extend_unlike, total
 use Rattle.runs.proofs.clusters.push_run.Goals as goal
 use Rattle.runs.proofs.clusters.push_run.Goals.{then-n-gt0+else-same, else-n-gt0}
 
-pub overflow-add-r : goal.overflow-add-r
-overflow-add-r g c =
+pub overflow_add-r : goal.overflow_add-r
+overflow_add-r g c =
     let t = total_part c.args.runs.now.items (c.len-n.result - 1) c.index.result.now (omega arith) c.index.ensures in
     omega arith
 
@@ -18,8 +18,8 @@ returns-then-same g c =
       cap = refl;
     }
 
-pub push-reserved-requires : goal.push-reserved-requires
-push-reserved-requires g c =
+pub push_reserved-requires : goal.push_reserved-requires
+push_reserved-requires g c =
     let rs = c.args.runs.now.items in
     let n = c.len-n.result - 1 in
     let a = c.args.attrs.now in
@@ -41,4 +41,4 @@ returns g c =
       | then-n-gt0+else-same w ↦ extend_unlike g.A.Attributes.kind rs n w.index.result.now a (omega (arith, w.if-n-gt0.true)) w.index.ensures (sym w.same.ensures ∙ w.if-same.false)
       | else-n-gt0 w ↦ extend_none g.A.Attributes.kind rs a (omega (arith, w.if-n-gt0.false))
     ] in
-    record { items = c.push-reserved.ensures.items ∙ e; cap = c.push-reserved.ensures.capacity }
+    record { items = c.push_reserved.ensures.items ∙ e; cap = c.push_reserved.ensures.capacity }

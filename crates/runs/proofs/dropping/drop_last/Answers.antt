@@ -14,10 +14,10 @@ returns-then-s-eq0 g c =
     let e : cs ≡ [] = nil_from_length cs (omega (arith, c.requires.counted)) in
     record { sound = c.requires; does = record { says = refl; row = e ∙ sym (ap without_last e); change = refl; room = refl } }
 
-pub overflow-sub-x : goal.overflow-sub-x
-overflow-sub-x g c =
+pub overflow_sub-x : goal.overflow_sub-x
+overflow_sub-x g c =
     let s = c.args.s.now in
-    let on : c.bit-on.result ≡ bits_of s.wide (c.columns-cols.result - 2) = c.bit-on.ensures.value ∙ ap (bits_of s.wide) c.saturating-sub.ensures in
+    let on : c.bit-on.result ≡ bits_of s.wide (c.columns-cols.result - 2) = c.bit-on.ensures.value ∙ ap (bits_of s.wide) c.saturating_sub.ensures in
     let l = last_column g.P.Splitter.splits s.text.items s.last s.count s.wide s.runs.items c.columns-cols.result c.bit-on.result c.requires (omega arith) c.columns-cols.ensures on in
     omega (arith, c.width_by.ensures)
 
@@ -25,10 +25,10 @@ pub returns : goal.returns
 returns g c =
     let s = c.args.s.now in
     let p = g.P.Splitter.splits in
-    let on : c.bit-on.result ≡ bits_of s.wide (c.columns-cols.result - 2) = c.bit-on.ensures.value ∙ ap (bits_of s.wide) c.saturating-sub.ensures in
-    let b = lost p g.A.Attributes.kind s.text.items s.last c.last-start-s.result s.count s.wide c.mark.new.words s.runs.items
-    c.columns-cols.result (c.columns-cols.result - c.width_by.result) c.bit-on.result c.truncate.new.self.items c.pop-run.new.runs.items
-    c.requires (omega arith) c.columns-cols.ensures on (ap (λ (n : ℕ). c.columns-cols.result - n) c.width_by.ensures) c.truncate.ensures.items c.pop-run.ensures.items
+    let on : c.bit-on.result ≡ bits_of s.wide (c.columns-cols.result - 2) = c.bit-on.ensures.value ∙ ap (bits_of s.wide) c.saturating_sub.ensures in
+    let b = lost p g.A.Attributes.kind s.text.items s.last c.last_start-s.result s.count s.wide c.mark.new.words s.runs.items
+    c.columns-cols.result (c.columns-cols.result - c.width_by.result) c.bit-on.result c.truncate.new.self.items c.pop_run.new.runs.items
+    c.requires (omega arith) c.columns-cols.ensures on (ap (λ (n : ℕ). c.columns-cols.result - n) c.width_by.ensures) c.truncate.ensures.items c.pop_run.ensures.items
     c.mark.ensures.bits (omega (arith, c.mark.ensures.ones))
-    (ap (drop c.last-start-s.result) (sym c.as-slice.ensures.value) ∙ c.last-start-s.ensures.piece ∙ ap (λ u. last_piece (pieces p.first u)) c.as-slice.ensures.value) in
+    (ap (drop c.last_start-s.result) (sym c.as_slice.ensures.value) ∙ c.last_start-s.ensures.piece ∙ ap (λ u. last_piece (pieces p.first u)) c.as_slice.ensures.value) in
     record { sound = b.0; does = record { says = refl; row = b.1; change = refl; room = refl } }

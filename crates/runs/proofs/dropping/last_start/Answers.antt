@@ -7,13 +7,13 @@ use Rattle.runs.proofs.dropping.last_start.Goals as goal
 
 pub loop-at-preserved : goal.loop-at-preserved
 loop-at-preserved g c =
-    let e = c.piece-end-end.ensures.bound in
-    (omega arith, sym (last_more g.P.Splitter.splits.first c.args.text.now c.loop-at.at c.piece-end-end.result c.piece-end-end.ensures.pieces (omega arith)) ∙ c.loop-at.invariant.1)
+    let e = c.piece_end-end.ensures.bound in
+    (omega arith, sym (last_more g.P.Splitter.splits.first c.args.text.now c.loop-at.at c.piece_end-end.result c.piece_end-end.ensures.pieces (omega arith)) ∙ c.loop-at.invariant.1)
 
 pub returns-then-end-text : goal.returns-then-end-text
 returns-then-end-text g c =
     record {
-      piece = sym (last_here g.P.Splitter.splits.first c.args.text.now c.loop-at.at c.piece-end-end.result c.piece-end-end.ensures.pieces (omega arith)) ∙ c.loop-at.invariant.1;
+      piece = sym (last_here g.P.Splitter.splits.first c.args.text.now c.loop-at.at c.piece_end-end.result c.piece_end-end.ensures.pieces (omega arith)) ∙ c.loop-at.invariant.1;
       bound = omega arith;
     }
 

@@ -4,7 +4,7 @@ use Rattle.runs.proofs.emptying.new.Goals as goal
 
 pub returns : goal.returns
 returns g c =
-    let b = none_held g.P.Splitter.splits c.clear-2.new.self.items c.no-bits.result c.clear.new.self.items c.clear-2.ensures.items c.clear.ensures.items c.no-bits.ensures.bits c.no-bits.ensures.ones in
+    let b = none_held g.P.Splitter.splits c.clear-2.new.self.items c.no_bits.result c.clear.new.self.items c.clear-2.ensures.items c.clear.ensures.items c.no_bits.ensures.bits c.no_bits.ensures.ones in
     let m : c.min-most.result ≡ min c.args.most c.args.runs.cap =
     c.min-most.ensures ∙ ap (min c.args.most) (c.capacity.ensures ∙ c.clear.ensures.capacity) in
     let n : c.min-bytes.result ≡ min c.args.bytes c.args.text.cap =

@@ -28,13 +28,13 @@ returns-in-Ok g c =
     let f = g.P.Splitter.splits.first in
     let at = c.args.at in
     let b = c.onward-behind.result in
-    let a = c.as-slice-all.result.now in
-    let e = c.piece-end-end.result in
-    let w = c.width-by-width.result in
+    let a = c.as_slice-all.result.now in
+    let e = c.piece_end-end.result in
+    let w = c.width_by-width.result in
     let q = take (e - at.byte) (drop at.byte a) in
     step_shows f (bits_of s.wide) s.text.items at.byte at.column at.run at.left e w b.column q s.runs.items (begun b.left (drop b.run s.runs.items)) c.index.result.now
-    c.bit.ensures.bound (piece_of f s.text.items a at.byte e c.as-slice-all.ensures.value c.piece-end-end.ensures.pieces) (omega arith) c.index.ensures
-    (c.width-by-width.ensures ∙ ap width_by c.bit.ensures.value) c.onward-behind.ensures.column c.onward-behind.ensures.runs
+    c.bit.ensures.bound (piece_of f s.text.items a at.byte e c.as_slice-all.ensures.value c.piece_end-end.ensures.pieces) (omega arith) c.index.ensures
+    (c.width_by-width.ensures ∙ ap width_by c.bit.ensures.value) c.onward-behind.ensures.column c.onward-behind.ensures.runs
     ∙ ap (λ o. shows o c.index.result.now.attrs (dress (bits_of s.wide) (pieces f (drop e s.text.items)) b.column (begun b.left (drop b.run s.runs.items)))) (sym c.in-Ok.ensures)
     ∙ ap (λ (j : ℕ). meaning (record { text = c.in-Ok.text; attrs = c.index.result.now.attrs }) ∷ dress (bits_of s.wide) (pieces f (drop j s.text.items)) b.column (begun b.left (drop b.run s.runs.items))) (sym c.onward-behind.ensures.byte)
 
@@ -44,11 +44,11 @@ returns-in-Err g c =
     let f = g.P.Splitter.splits.first in
     let at = c.args.at in
     let b = c.onward-behind.result in
-    let a = c.as-slice-all.result.now in
-    let e = c.piece-end-end.result in
-    let w = c.width-by-width.result in
+    let a = c.as_slice-all.result.now in
+    let e = c.piece_end-end.result in
+    let w = c.width_by-width.result in
     let q = take (e - at.byte) (drop at.byte a) in
     step_shows f (bits_of s.wide) s.text.items at.byte at.column at.run at.left e w b.column q s.runs.items (begun b.left (drop b.run s.runs.items)) c.index.result.now
-    c.bit.ensures.bound (piece_of f s.text.items a at.byte e c.as-slice-all.ensures.value c.piece-end-end.ensures.pieces) (omega arith) c.index.ensures
-    (c.width-by-width.ensures ∙ ap width_by c.bit.ensures.value) c.onward-behind.ensures.column c.onward-behind.ensures.runs
+    c.bit.ensures.bound (piece_of f s.text.items a at.byte e c.as_slice-all.ensures.value c.piece_end-end.ensures.pieces) (omega arith) c.index.ensures
+    (c.width_by-width.ensures ∙ ap width_by c.bit.ensures.value) c.onward-behind.ensures.column c.onward-behind.ensures.runs
     ∙ ap (λ o. shows o c.index.result.now.attrs (dress (bits_of s.wide) (pieces f (drop e s.text.items)) b.column (begun b.left (drop b.run s.runs.items)))) (sym c.in-Err.ensures)

@@ -6,6 +6,6 @@ pub returns : goal.returns
 returns g c =
     record {
       byte = refl;
-      column = c.column-behind-column.ensures;
-      runs = c.cells-at.ensures ∙ sym (past_leaves c.args.at.left c.args.at.run c.args.runs.now.items (omega arith) (omega arith));
+      column = c.column_behind-column.ensures;
+      runs = c.cells_at.ensures ∙ sym (past_leaves c.args.at.left c.args.at.run c.args.runs.now.items (omega arith) (omega arith));
     }

@@ -23,8 +23,8 @@ joint-requires g c =
     let p = g.P.Splitter.splits in
     let s = c.args.s.now in
     let t = s.text.items in
-    let all = c.as-slice-all.result.now in
-    let a : take (length all - s.last) (drop s.last all) ≡ drop s.last t = take_rest all s.last ∙ ap (drop s.last) c.as-slice-all.ensures.value in
+    let all = c.as_slice-all.result.now in
+    let a : take (length all - s.last) (drop s.last all) ≡ drop s.last t = take_rest all s.last ∙ ap (drop s.last) c.as_slice-all.ensures.value in
     let w = dress_worded (bits_of s.wide) (pieces p.first t) 0 s.runs.items in (
       subst (λ (u : List ℕ). length u ≤ 7) (sym a) (last_short p t s.last s.count s.wide s.runs.items (cells p s) c.requires.sound w),
       subst (λ (u : List ℕ). length u ≤ 7) (sym c.requires.text) (text_length c.args.c.now.text.word),
@@ -40,8 +40,8 @@ returns g c =
     let n : 0 < length cs = omega (arith, c.requires.sound.counted) in
     let ln : length t ≡ c.len.result = omega arith in
     let l : length (last_text cs) ≡ c.len.result - s.last = ap length (sym c.requires.sound.ended) ∙ length-drop s.last t ∙ ap (λ m. m - s.last) ln in
-    let a : take (length c.as-slice-all.result.now - s.last) (drop s.last c.as-slice-all.result.now) ≡ last_text cs =
-    take_rest c.as-slice-all.result.now s.last ∙ ap (drop s.last) c.as-slice-all.ensures.value ∙ c.requires.sound.ended in
+    let a : take (length c.as_slice-all.result.now - s.last) (drop s.last c.as_slice-all.result.now) ≡ last_text cs =
+    take_rest c.as_slice-all.result.now s.last ∙ ap (drop s.last) c.as_slice-all.ensures.value ∙ c.requires.sound.ended in
     ap (λ m. ltb m c.joint.result) (sym l)
     ∙ ap (ltb (length (last_text cs))) (c.joint.ensures ∙ ap (λ u. p.first (u ++ c.args.text.now)) a ∙ ap (λ u. p.first (last_text cs ++ u)) c.requires.text)
     ∙ sym (fuses_by p cs q n)

@@ -5,7 +5,7 @@ use Rattle.std.specs.List.{slice_get}
 use Rattle.cells.specs.Cells.{meaning}
 use Rattle.cells.proofs.Laid.{text_length}
 use Rattle.runs.proofs.texts.bytes_of.Goals as goal
-use Rattle.runs.proofs.texts.bytes_of.Goals.{in-Some, in-default}
+use Rattle.runs.proofs.texts.bytes_of.Goals.{in-Some, in_default}
 
 byte_at : (t : List ℕ) (i b : ℕ) → i < length t → Some b ≡ slice_get t i → b ≡ get_or t i 0
 byte_at t i b h e = let d : slice_get t i ≡ Some (get_or t i 0) = slice_get-get_or t i 0 h in cc
@@ -33,7 +33,7 @@ loop-i-preserved g c =
         ap length w.out-is ∙ length-set out i w.in-Some.b ∙ c.loop-i.invariant.0,
         ap (take (i + 1)) w.out-is ∙ byte_more t out i w.in-Some.b h (omega (arith, c.loop-i.invariant.0)) w.in-Some.ensures c.loop-i.invariant.1,
       )
-      | in-default w ↦ absurd (none_past t i h w.in-default.ensures)
+      | in_default w ↦ absurd (none_past t i h w.in_default.ensures)
     ]
 
 pub returns : goal.returns

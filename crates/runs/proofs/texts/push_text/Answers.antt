@@ -7,9 +7,9 @@ loop-b-preserved c =
     let i = c.loop-b.b-index in
     let m = c.args.more.now in
     let t = c.args.text.now.items in (
-      c.push-reserved.ensures.capacity ∙ c.loop-b.invariant.0,
+      c.push_reserved.ensures.capacity ∙ c.loop-b.invariant.0,
       omega arith,
-      c.push-reserved.ensures.items ∙ ap (λ u. u ++ (get_or m i 0 ∷ [])) c.loop-b.invariant.2 ∙ append_assoc t (take i m) (get_or m i 0 ∷ []) ∙ ap (λ u. t ++ u) (sym (take_more m i 0 (omega arith))),
+      c.push_reserved.ensures.items ∙ ap (λ u. u ++ (get_or m i 0 ∷ [])) c.loop-b.invariant.2 ∙ append_assoc t (take i m) (get_or m i 0 ∷ []) ∙ ap (λ u. t ++ u) (sym (take_more m i 0 (omega arith))),
     )
 
 pub returns : goal.returns

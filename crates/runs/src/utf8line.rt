@@ -81,11 +81,11 @@ impl<A: Attributes> Store for Utf8ClusteredLine<A> {
 
     ghost left = { λ s. left_at utf8_splits s.held };
 
-    ghost within = { first_of (Prim.search rules, Prim.grind (arith, Self.row.coded.inj)) };
+    ghost within = { Prim.search rules };
 
     ghost sized = { λ s. sound_sized utf8_splits s.held };
 
-    ghost packer = { first_of (Prim.search rules, Prim.grind (arith, Self.row.coded.inj)) };
+    ghost packer = { Prim.search rules };
 
     fn len(&self) -> usize {
         reading::len::<Utf8, A>(&self.held)
