@@ -1,3 +1,4 @@
+pub mod Means
 mod Writes
 mod Reading
 mod Seconds

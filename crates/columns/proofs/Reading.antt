@@ -14,7 +14,7 @@ use Rattle.rows.proofs.Wholes.{Paired, paired, shown_append, shown_spread, whole
 use Rattle.rows.proofs.Spans.{span_append, nth_placed, none_placed}
 use Rattle.rows.proofs.Agreement.{on_last_push}
 use Rattle.columns.specs.Cols.{Last}
-use Rattle.columns.specs.Means.{wide_is, narrow_is}
+use Rattle.columns.proofs.Means.{wide_is, narrow_is}
 
 without_push : {X : Type 0} (xs : List X) (x : X) → without_last (xs ++ (x ∷ [])) ≡ xs
 without_push [] x = refl

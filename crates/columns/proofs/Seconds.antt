@@ -9,7 +9,7 @@ use Rattle.rows.specs.Columns.{wide_at, inside, padded, between, without, Whole}
 use Rattle.rows.specs.Edits.{made_room, parts_wide}
 use Rattle.rows.specs.Bounds.{Sized}
 use Rattle.columns.specs.Cols.{Last}
-use Rattle.columns.specs.Means.{wide_is, narrow_is}
+use Rattle.columns.proofs.Means.{wide_is, narrow_is}
 use Rattle.columns.proofs.Reading.{inside_once, whole_end}
 
 module _ {A : Type 0} where

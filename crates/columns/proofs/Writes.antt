@@ -6,7 +6,7 @@ use Rattle.cells.specs.Kinds.{Kind}
 use Rattle.rows.specs.Spread.{wide, columns_of}
 use Rattle.rows.specs.Columns.{blank_at, blanked, padded, over, between, without}
 use Rattle.rows.specs.Bounds.{Sized}
-use Rattle.columns.specs.Means.{wide_is, narrow_is, wide_columns, narrow_columns}
+use Rattle.columns.proofs.Means.{wide_is, narrow_is, wide_columns, narrow_columns}
 
 module _ {A : Type 0} where
   blank_set : (n : ℕ) (xs : List (Shown A)) (c : Shown A) → n < length xs → c ≡ get_or xs n c → wide c ≡ true → set xs n (blank_with c.attrs) ≡ blank_at n xs

@@ -1,2 +1,2 @@
 pub mod Cols
-pub mod Means
+pub mod Laws

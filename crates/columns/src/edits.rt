@@ -1,8 +1,7 @@
 //! The column store as a grid.
 ghost use Rattle.std.specs.Prelude.{ℕ, List, refl};
 ghost use Rattle.columns.specs.Cols.{sized_room};
-ghost use Rattle.std.proofs.Common.{arith};
-ghost use Rattle.columns.specs.Means.{whole_of, span_cols};
+ghost use Rattle.columns.specs.Laws.{span_within};
 
 use crate::ends::{flagged, hand_on, last_cell, push_cells, trim};
 use crate::inserts::{insert_refusal, make_room, put_in, shift, slides};
@@ -23,10 +22,7 @@ impl<A: Attributes, P: Splitter> Fill for VecStorage<A, P> {
 
     ghost most = { λ s. s.most };
 
-    ghost fits = { λ s.
-        let l = span_cols s.cells.items (whole_of A.row.coded s.cells.items s.whole) in
-        let n = s.within in
-        omega arith };
+    ghost fits = { λ s. span_within A.row.coded s.cells s.limit s.whole s.within };
 
     ghost admits = { λ sizes cells c. refl };
 

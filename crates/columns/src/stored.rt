@@ -3,8 +3,9 @@ ghost use Rattle.std.specs.Prelude.{◌≡◌, ℕ, ◌≤◌, min, List, [], �
 ghost use Rattle.rows.specs.Columns.{shown};
 ghost use Rattle.rows.specs.Packing.{grid_rule};
 ghost use Rattle.columns.specs.Cols.{columns, sized_room};
-ghost use Rattle.std.proofs.Common.{arith, rules};
-ghost use Rattle.columns.specs.Means.{whole_of, span_cols, sized_shown};
+ghost use Rattle.std.proofs.Common.{rules};
+ghost use Rattle.std.proofs.Math.Nat.{le_trans};
+ghost use Rattle.columns.specs.Laws.{sized_shown, span_within};
 
 use crate::ends::{cell_at, last_cell};
 use crate::steps::{passes, push_cell};
@@ -51,11 +52,7 @@ impl<A: Attributes, P: Splitter> Store for VecStorage<A, P> {
 
     ghost left = { λ s p. shown (drop p (columns s.cells.items)) };
 
-    ghost within = { λ s.
-        let l = span_cols s.cells.items (whole_of A.row.coded s.cells.items s.whole) in
-        let m = s.most in
-        let n = s.within in
-        omega arith };
+    ghost within = { λ s. le_trans (span_within A.row.coded s.cells s.limit s.whole s.within) s.most };
 
     ghost sized = { λ s. sized_shown s.cells.items };
 

@@ -4,7 +4,7 @@ use Rattle.rows.specs.Columns.{shown, column_of}
 use Rattle.std.specs.List.{slice_get}
 use Rattle.rows.specs.Spread.{placed}
 use Rattle.columns.specs.Cols.{columns}
-use Rattle.columns.specs.Means.{length_cols, cols_read, sized_cell}
+use Rattle.columns.proofs.Means.{length_cols, cols_read, sized_cell}
 use Rattle.columns.proofs.Reading.{walk_cells, walk_column, walked, walked_off}
 use Rattle.columns.proofs.ends.cell_at.Goals as goal
 

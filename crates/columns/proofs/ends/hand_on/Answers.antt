@@ -8,7 +8,7 @@ use Rattle.rows.specs.Packing.{grid_rule}
 use Rattle.rows.specs.Columns.{shown}
 use Rattle.rows.proofs.Spans.{span_append}
 use Rattle.columns.specs.Cols.{columns}
-use Rattle.columns.specs.Means.{length_cols, cols_read, sized_cell}
+use Rattle.columns.proofs.Means.{length_cols, cols_read, sized_cell}
 use Rattle.columns.proofs.Reading.{read_next, read_end}
 use Rattle.columns.proofs.Dones.{room_left}
 use Rattle.columns.proofs.ends.hand_on.Goals as goal

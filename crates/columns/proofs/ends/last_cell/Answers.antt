@@ -1,7 +1,7 @@
 use Rattle.std.proofs.Common.{◌≡◌, sym, refl, ap, ◌∙◌, arith}
 use Rattle.cells.specs.Cells.{meaning}
 use Rattle.columns.specs.Cols.{columns}
-use Rattle.columns.specs.Means.{length_cols, cols_read, sized_cell}
+use Rattle.columns.proofs.Means.{length_cols, cols_read, sized_cell}
 use Rattle.columns.proofs.Seconds.{last_wide, last_narrow}
 use Rattle.columns.proofs.ends.last_cell.Goals as goal
 

@@ -6,7 +6,7 @@ use Rattle.rows.specs.Columns.{shown}
 use Rattle.rows.specs.Trims.{up_to_last, not_plain}
 use Rattle.rows.proofs.Wholes.{whole_as}
 use Rattle.columns.specs.Cols.{columns}
-use Rattle.columns.specs.Means.{length_cols, cols_take, sized_cell}
+use Rattle.columns.proofs.Means.{length_cols, cols_take, sized_cell}
 use Rattle.columns.proofs.Reading.{last_front, last_shown}
 use Rattle.columns.proofs.Trims.{trimmed_yes, trimmed_no}
 use Rattle.columns.proofs.ends.trim.Goals as goal

@@ -2,7 +2,7 @@ use Rattle.std.proofs.Common.{◌≡◌, ◌-◌, cond, length, sym, refl, ap, �
 use Rattle.std.proofs.lemmas.Bool.{le-leb, lt-leb}
 use Rattle.rows.specs.Columns.{padded, without}
 use Rattle.columns.specs.Cols.{columns}
-use Rattle.columns.specs.Means.{length_cols, cols_without}
+use Rattle.columns.proofs.Means.{length_cols, cols_without}
 use Rattle.columns.proofs.inserts.make_room.Goals as goal
 
 pub returns-then-margin-len : goal.returns-then-margin-len

@@ -1,6 +1,6 @@
 use Rattle.std.proofs.Common.{◌≡◌, ◌+◌, sym, refl, ap, ◌∙◌, arith}
 use Rattle.columns.specs.Cols.{columns}
-use Rattle.columns.specs.Means.{length_cols}
+use Rattle.columns.proofs.Means.{length_cols}
 use Rattle.columns.proofs.Seconds.{inside_past, parts_short, parts_first, parts_below, parts_above}
 use Rattle.columns.proofs.inserts.parts_wide.Goals as goal
 

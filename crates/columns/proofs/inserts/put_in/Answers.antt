@@ -2,7 +2,7 @@ use Rattle.std.proofs.Common.{◌≡◌, true, false, [], ◌∷◌, ◌++◌, t
 use Rattle.cells.specs.Cells.{meaning}
 use Rattle.rows.specs.Spread.{wide}
 use Rattle.columns.specs.Cols.{columns}
-use Rattle.columns.specs.Means.{cols_put, sized_cell, wide_is, narrow_is, narrow_columns, length_cols}
+use Rattle.columns.proofs.Means.{cols_put, sized_cell, wide_is, narrow_is, narrow_columns, length_cols}
 use Rattle.columns.proofs.Seconds.{put_two}
 use Rattle.columns.proofs.inserts.put_in.Goals as goal
 

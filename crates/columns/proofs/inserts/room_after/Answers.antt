@@ -1,7 +1,7 @@
 use Rattle.std.proofs.Common.{◌≡◌, true, false, cond, sym, refl, ap, ◌∙◌, arith}
 use Rattle.std.proofs.lemmas.Bool.Decides.{nat_tests}
 use Rattle.columns.specs.Cols.{columns}
-use Rattle.columns.specs.Means.{length_cols}
+use Rattle.columns.proofs.Means.{length_cols}
 use Rattle.columns.proofs.Seconds.{length_room}
 use Rattle.columns.proofs.inserts.room_after.Goals as goal
 

@@ -1,7 +1,7 @@
 use Rattle.std.proofs.Common.{◌≡◌, ◌-◌, set, sym, refl, ap, ◌∙◌, arith}
 use Rattle.cells.specs.Cells.{meaning}
 use Rattle.columns.specs.Cols.{columns}
-use Rattle.columns.specs.Means.{cols_read, cols_set, length_cols}
+use Rattle.columns.proofs.Means.{cols_read, cols_set, length_cols}
 use Rattle.columns.proofs.Writes.{blanked_set, blanked_same}
 use Rattle.columns.proofs.steps.blank_before.Goals as goal
 

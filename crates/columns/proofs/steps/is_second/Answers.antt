@@ -1,7 +1,7 @@
 use Rattle.std.proofs.Common.{◌≡◌, sym, refl, ap, ◌∙◌, arith}
 use Rattle.cells.specs.Cells.{meaning}
 use Rattle.columns.specs.Cols.{columns}
-use Rattle.columns.specs.Means.{cols_read, length_cols}
+use Rattle.columns.proofs.Means.{cols_read, length_cols}
 use Rattle.columns.proofs.Seconds.{inside_past, inside_read}
 use Rattle.columns.proofs.steps.is_second.Goals as goal
 

@@ -1,7 +1,7 @@
 use Rattle.std.proofs.Common.{◌≡◌, List, [], ◌∷◌, ◌++◌, length, sym, refl, ap, ◌∙◌, arith}
 use Rattle.rows.specs.Columns.{padded}
 use Rattle.columns.specs.Cols.{columns}
-use Rattle.columns.specs.Means.{cols_push, length_cols}
+use Rattle.columns.proofs.Means.{cols_push, length_cols}
 use Rattle.columns.proofs.Writes.{padded_none, padded_push, padded_same}
 use Rattle.columns.proofs.steps.pad.Goals as goal
 

@@ -2,7 +2,7 @@ use Rattle.std.proofs.Common.{◌≡◌, ◌+◌, true, false, [], ◌∷◌, �
 use Rattle.cells.specs.Cells.{meaning}
 use Rattle.rows.specs.Spread.{wide}
 use Rattle.columns.specs.Cols.{columns}
-use Rattle.columns.specs.Means.{cols_put, sized_cell, wide_is, narrow_is}
+use Rattle.columns.proofs.Means.{cols_put, sized_cell, wide_is, narrow_is}
 use Rattle.columns.proofs.Writes.{write_two, over_wide, over_narrow}
 use Rattle.columns.proofs.steps.put.Goals as goal
 

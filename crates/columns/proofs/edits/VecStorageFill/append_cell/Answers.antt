@@ -10,7 +10,8 @@ use Rattle.rows.proofs.Wholes.{whole_as, whole_append, whole_columns, shown_appe
 use Rattle.stores.specs.Stores.{append_cell}
 use Rattle.columns.specs.Cols.{columns, room_of}
 use Rattle.columns.proofs.Dones.{carried, refused, panel, room_left, room_none}
-use Rattle.columns.specs.Means.{whole_of, span_cols, sized_cell}
+use Rattle.columns.specs.Laws.{whole_of, span_cols}
+use Rattle.columns.proofs.Means.{sized_cell}
 use Rattle.columns.proofs.Reading.{shown_one}
 use Rattle.columns.proofs.edits.VecStorageFill.append_cell.Goals as goal
 

@@ -9,7 +9,7 @@ use Rattle.rows.specs.Edits.{append_line}
 use Rattle.rows.proofs.Wholes.{whole_as, whole_append, whole_spread, shown_append, shown_spread}
 use Rattle.columns.specs.Cols.{columns, room_of}
 use Rattle.columns.proofs.Dones.{panel, refused, carried, skip_one, hit}
-use Rattle.columns.specs.Means.{whole_of, span_cols}
+use Rattle.columns.specs.Laws.{whole_of, span_cols}
 use Rattle.columns.proofs.edits.VecStorageGrid.append_line.Goals as goal
 
 pub returns-then-passes : goal.returns-then-passes

@@ -4,7 +4,8 @@ use Rattle.rows.specs.Columns.{without, blanked}
 use Rattle.rows.proofs.Wholes.{whole_as, whole_append, whole_blanks, whole_blanked, whole_without, inside_blanked}
 use Rattle.columns.specs.Cols.{columns}
 use Rattle.columns.proofs.Dones.{past_end, within_end}
-use Rattle.columns.specs.Means.{whole_of, cols_without, cols_push}
+use Rattle.columns.specs.Laws.{whole_of}
+use Rattle.columns.proofs.Means.{cols_without, cols_push}
 use Rattle.columns.proofs.edits.VecStorageGrid.erase_cell.Goals as goal
 
 pub returns-then-x-len : goal.returns-then-x-len

@@ -10,7 +10,8 @@ use Rattle.rows.specs.Edits.{becomes, made_room, insert_refusals}
 use Rattle.rows.proofs.Wholes.{whole_as, whole_room, whole_between}
 use Rattle.columns.specs.Cols.{columns, room_of}
 use Rattle.columns.proofs.Dones.{panel, refused_columns, carried_columns, insertable}
-use Rattle.columns.specs.Means.{whole_of, length_cols, cols_moved}
+use Rattle.columns.specs.Laws.{whole_of}
+use Rattle.columns.proofs.Means.{length_cols, cols_moved}
 use Rattle.columns.proofs.Moved.{moved}
 use Rattle.columns.proofs.Seconds.{length_room, slid}
 use Rattle.columns.proofs.edits.VecStorageGrid.insert_cell.Goals as goal

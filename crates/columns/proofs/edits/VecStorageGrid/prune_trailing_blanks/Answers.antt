@@ -7,7 +7,7 @@ use Rattle.rows.specs.Trims.{up_to_last, not_plain}
 use Rattle.rows.specs.Edits.{prune_trailing_blanks}
 use Rattle.columns.specs.Cols.{columns}
 use Rattle.columns.proofs.Dones.{panel, carried, prune_count}
-use Rattle.columns.specs.Means.{whole_of, span_cols, sized_shown}
+use Rattle.columns.specs.Laws.{whole_of, span_cols, sized_shown}
 use Rattle.columns.proofs.edits.VecStorageGrid.prune_trailing_blanks.Goals as goal
 
 pub trim-requires : goal.trim-requires

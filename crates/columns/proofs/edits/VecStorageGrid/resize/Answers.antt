@@ -7,7 +7,8 @@ use Rattle.rows.specs.Edits.{becomes, resize_refusals}
 use Rattle.rows.proofs.Wholes.{whole_as, whole_padded, whole_take}
 use Rattle.columns.specs.Cols.{columns, room_of}
 use Rattle.columns.proofs.Dones.{panel, refused_columns, carried_columns, skip_one, hit}
-use Rattle.columns.specs.Means.{whole_of, cols_take}
+use Rattle.columns.specs.Laws.{whole_of}
+use Rattle.columns.proofs.Means.{cols_take}
 use Rattle.columns.proofs.edits.VecStorageGrid.resize.Goals as goal
 
 pub returns-then-is_second : goal.returns-then-is_second

@@ -7,7 +7,8 @@ use Rattle.rows.specs.Edits.{becomes, set_refusals, set_columns}
 use Rattle.rows.proofs.Wholes.{whole_as, whole_blanked, whole_padded, whole_over, inside_blanked}
 use Rattle.columns.specs.Cols.{columns, room_of}
 use Rattle.columns.proofs.Dones.{panel, refused_columns, carried_columns, set_clear, set_cell_refused}
-use Rattle.columns.specs.Means.{whole_of, length_cols, sized_cell}
+use Rattle.columns.specs.Laws.{whole_of}
+use Rattle.columns.proofs.Means.{length_cols, sized_cell}
 use Rattle.columns.proofs.edits.VecStorageGrid.set_cell.Goals as goal
 
 pub returns-in-Some : goal.returns-in-Some

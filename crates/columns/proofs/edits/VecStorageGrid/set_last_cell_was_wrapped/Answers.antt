@@ -12,7 +12,8 @@ use Rattle.rows.specs.Edits.{some_cell, flag_refusals, set_last_cell_was_wrapped
 use Rattle.rows.proofs.Wholes.{whole_as, whole_append, whole_blanks, whole_over}
 use Rattle.columns.specs.Cols.{columns, room_of}
 use Rattle.columns.proofs.Dones.{panel, refused, carried, skip_one, no_cells, some_same}
-use Rattle.columns.specs.Means.{whole_of, span_cols, length_cols, cols_push, sized_cell}
+use Rattle.columns.specs.Laws.{whole_of, span_cols}
+use Rattle.columns.proofs.Means.{length_cols, cols_push, sized_cell}
 use Rattle.columns.proofs.Reading.{last_put, last_shown}
 use Rattle.columns.proofs.edits.VecStorageGrid.set_last_cell_was_wrapped.Goals as goal
 

@@ -7,7 +7,8 @@ use Rattle.rows.proofs.Wholes.{whole_as, whole_take, whole_drop}
 use Rattle.stores.specs.Stores.{panel_of}
 use Rattle.columns.specs.Cols.{columns}
 use Rattle.columns.proofs.Dones.{first_refused, second_refused, first_carried, second_carried, split_parts, split_small, split_clear, emptied_cells, emptied_number}
-use Rattle.columns.specs.Means.{whole_of, cols_take, span_drop}
+use Rattle.columns.specs.Laws.{whole_of}
+use Rattle.columns.proofs.Means.{cols_take, span_drop}
 use Rattle.columns.proofs.edits.VecStorageGrid.split_off.Goals as goal
 
 pub returns-then-is_second : goal.returns-then-is_second

@@ -8,7 +8,8 @@ use Rattle.rows.specs.Packing.{without_last, drop_last}
 use Rattle.rows.proofs.Wholes.{whole_as}
 use Rattle.columns.specs.Cols.{columns}
 use Rattle.columns.proofs.Dones.{carried, panel}
-use Rattle.columns.specs.Means.{whole_of, cols_take, length_cols, sized_cell}
+use Rattle.columns.specs.Laws.{whole_of}
+use Rattle.columns.proofs.Means.{cols_take, length_cols, sized_cell}
 use Rattle.columns.proofs.Reading.{last_front, last_gone}
 use Rattle.columns.proofs.stored.VecStorageStore.drop_last.Goals as goal
 

@@ -1,5 +1,5 @@
 use Rattle.std.proofs.Common.{◌≡◌, sym, refl, ap, ◌∙◌, arith}
-use Rattle.columns.specs.Means.{whole_of, span_cols}
+use Rattle.columns.specs.Laws.{whole_of, span_cols}
 use Rattle.columns.proofs.stored.VecStorageStore.len.Goals as goal
 
 pub returns : goal.returns

@@ -2,7 +2,7 @@ use Rattle.std.proofs.Common.{◌≡◌, ◌+◌, ◌∷◌, drop, sym, refl, ap
 use Rattle.cells.specs.Cells.{meaning}
 use Rattle.rows.specs.Columns.{shown}
 use Rattle.columns.specs.Cols.{columns}
-use Rattle.columns.specs.Means.{length_cols, cols_read, sized_cell}
+use Rattle.columns.proofs.Means.{length_cols, cols_read, sized_cell}
 use Rattle.columns.proofs.Reading.{read_next, read_end}
 use Rattle.columns.proofs.stored.VecStorageStore.next_cell.Goals as goal
 

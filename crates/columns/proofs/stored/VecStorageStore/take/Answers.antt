@@ -9,7 +9,8 @@ use Rattle.rows.specs.Packing.{grid_rule, or_else, take_cell}
 use Rattle.rows.proofs.Wholes.{whole_as, whole_append, whole_columns, shown_append}
 use Rattle.columns.specs.Cols.{columns, room_of}
 use Rattle.columns.proofs.Dones.{carried, refused, panel, room_left, room_none}
-use Rattle.columns.specs.Means.{whole_of, span_cols, sized_cell}
+use Rattle.columns.specs.Laws.{whole_of, span_cols}
+use Rattle.columns.proofs.Means.{sized_cell}
 use Rattle.columns.proofs.Reading.{shown_one}
 use Rattle.columns.proofs.stored.VecStorageStore.take.Goals as goal
 

@@ -17,6 +17,7 @@ use Rattle.rows.proofs.Wholes.{whole_as, whole_drop}
 use Rattle.rows.proofs.Spans.{span_shown}
 use Rattle.rows.proofs.Kept.{all_shown}
 use Rattle.columns.specs.Cols.{columns}
+use Rattle.columns.specs.Laws.{span_cols}
 
 module _ {A : Type 0} where
   pub sized_cell : (c : Cell A) → Sized (meaning c)
@@ -68,22 +69,6 @@ module _ {A : Type 0} where
   cols_moved x m c xs =
       cols_put x m (take (m - x) (c ∷ drop x xs)) xs xs
       ∙ ap (λ v. take x (columns xs) ++ (v ++ drop m (columns xs))) (cols_take (m - x) (c ∷ drop x xs) ∙ ap (λ v. take (m - x) (meaning c ∷ v)) (cols_drop x xs))
-
-  pub coded_shown : Coded A → Coded (Shown A)
-  coded_shown a =
-      coded_via (coded× (coded_list coded_ℕ) (coded× coded_ℕ a)) (λ (c : Shown A). (c.text, (c.width, c.attrs)))
-      (λ x y p i. record { text = (p i).0; width = (p i).1.0; attrs = (p i).1.1 })
-
-  -- what a ghost field says of whole columns
-  pub whole_of : Coded A → (xs : List (Cell A)) → ∥ Whole (columns xs) ∥₁ → Whole (columns xs)
-  whole_of a xs w = ∥∥₁_elim w (Coded-set (coded_list (coded_shown a)) _ _) (λ e. e)
-
-  pub sized_shown : (xs : List (Cell A)) → AllByRecursion Sized (shown (columns xs))
-  sized_shown xs = all_shown Sized (λ a. refl) (columns xs) (sized_cells xs)
-
-  -- as many columns as the shown cells take
-  pub span_cols : (xs : List (Cell A)) → Whole (columns xs) → span (shown (columns xs)) ≡ length xs
-  span_cols xs w = span_shown (columns xs) w (sized_shown xs) ∙ length_cols xs
 
   pub span_drop : (idx : ℕ) (xs : List (Cell A)) → Whole (columns xs) → span (shown (drop idx (columns xs))) ≡ length xs - idx
   span_drop idx xs w =
