@@ -1,5 +1,5 @@
 -- One more byte or space behind what is there.
-use Rattle.std.proofs.Common.{◌≡◌, ℕ, ◌+◌, ◌<◌, List, [], ◌∷◌, ◌++◌, map, length, get_or, take, replicate, Some, None, Option, sym, refl, ap, ◌∙◌, append_assoc, arith}
+use Rattle.std.proofs.Common.{◌≡◌, ℕ, ◌+◌, ◌<◌, List, [], ◌∷◌, ◌++◌, map, length, get_or, take, replicate, Some, None, sym, ap, ◌∙◌, append_assoc, arith}
 use Rattle.cells.specs.Cells.{Shown}
 use Rattle.rows.specs.Lists.{joined}
 use Rattle.std.specs.List.{slice_get}

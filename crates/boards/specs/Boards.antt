@@ -5,7 +5,7 @@
 -- boarded     what putting a line on a row does; Boarded  it was done
 -- board_width how wide a row of so many columns is shown
 -- board_text  the texts of cells, filled up with spaces to a width
-use Rattle.std.specs.Prelude.{◌≡◌, ℕ, ◌-◌, cond, List, [], ◌∷◌, ◌++◌, map, replicate, Some, None, Ok, Err, Option, Result, nat_lt}
+use Rattle.std.specs.Prelude.{◌≡◌, ℕ, ◌-◌, cond, List, ◌++◌, map, replicate, Some, None, Ok, Err, Option, Result, nat_lt}
 use Rattle.cells.specs.Cells.{Shown}
 use Rattle.cells.specs.Kinds.{Kind}
 use Rattle.cells.specs.Refusals.{first_of}

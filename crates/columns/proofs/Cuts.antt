@@ -1,18 +1,17 @@
 -- One more piece of a text, and its cell.
-use Rattle.std.proofs.Common.{◌≡◌, ℕ, zero, suc, ◌+◌, ◌-◌, ◌<◌, ◌≤◌, min, max, Bool, true, false, cond, not, ◌||◌, ltb, List, [], ◌∷◌, ◌++◌, map, length, take, drop, None, Ok, Err, Option, sym, refl, ap, ◌∙◌, subst, arith}
+use Rattle.std.proofs.Common.{◌≡◌, ℕ, ◌+◌, ◌<◌, ◌≤◌, Bool, true, false, cond, ◌||◌, ltb, List, [], ◌∷◌, ◌++◌, map, length, take, drop, None, Ok, sym, ap, ◌∙◌, arith}
 use Rattle.std.proofs.lemmas.List.{length-drop, drop-drop, drop_all, length-take-le, take-append-drop}
 use Rattle.std.proofs.lemmas.Bool.{lt-ltb, le-ltb, ltb-false, or_parts}
 use Rattle.cells.specs.Cleaning.{space, unclean, clean}
 use Rattle.cells.specs.Refusals.{first_of, verdict}
-use Rattle.cells.specs.Words.{Text, has_zero, bad_width, word_refusals, made}
-use Rattle.cells.specs.declared.refusal.Refusal.{Refusal}
+use Rattle.cells.specs.Words.{has_zero, bad_width, made}
 use Rattle.cells.specs.declared.refusal.Refusal.TheVariants.{NotOnePiece, TooLong, BadWidth}
 use Rattle.splitters.specs.Splits.{Splits}
 use Rattle.splitters.specs.Pieces.{pieces}
 use Rattle.splitters.specs.Reading.{step}
 use Rattle.splitters.specs.Graphemes.{cell_width}
 use Rattle.splitters.proofs.Cutting.{pieces_more}
-use Rattle.splitters.proofs.Making.{clean_is_clean, clean_good, piece_solid, width_agrees, dressed}
+use Rattle.splitters.proofs.Making.{clean_is_clean, clean_good, piece_solid, width_agrees}
 use Rattle.rows.specs.Lists.{span}
 use Rattle.rows.specs.Spread.{spread, columns_of}
 use Rattle.rows.specs.Givens.{cell_of, cells_of, any_long}

@@ -1,5 +1,5 @@
 -- What a call did, from its refusals and its columns.
-use Rattle.std.proofs.Common.{◌≡◌, ℕ, zero, suc, ◌+◌, ◌-◌, ◌<◌, ◌≤◌, max, Bool, true, false, cond, not, eqb, ltb, ◌⊎◌, List, [], ◌∷◌, ◌++◌, length, take, drop, replicate, Some, None, Ok, Err, Option, Result, sym, refl, ap, ◌∙◌, subst, inl, inr, arith}
+use Rattle.std.proofs.Common.{◌≡◌, ℕ, zero, suc, ◌+◌, ◌-◌, ◌<◌, ◌≤◌, max, Bool, true, false, cond, not, eqb, ltb, List, [], ◌∷◌, ◌++◌, length, take, drop, replicate, Some, None, Ok, Err, Result, sym, refl, ap, ◌∙◌, subst, inl, inr, arith}
 use Rattle.std.specs.List.{AllByRecursion}
 use Rattle.std.proofs.lemmas.List.{length-append, length-map, length-replicate, nil_from_length}
 use Rattle.std.proofs.lemmas.Bool.{ltb-false, lt-ltb, le-ltb, ne_eqb, eqb-false, cases_Bool, not-false}
@@ -18,7 +18,7 @@ use Rattle.rows.proofs.Plain.{pruned}
 use Rattle.rows.proofs.Spans.{span_append}
 use Rattle.rows.specs.Packing.{grid_rule}
 use Rattle.rows.specs.Columns.{shown, Whole, inside}
-use Rattle.rows.specs.Rows.{State, Room, Panel, Edit, Done, state, stays, unless, passes}
+use Rattle.rows.specs.Rows.{Room, Panel, Edit, Done, state, stays, unless, passes}
 use Rattle.rows.specs.Givens.{cell_refusals}
 use Rattle.rows.specs.Edits.{becomes, split_refusals, split_first, split_second, made_room, parts_wide, some_cell, from_text, text_refusals, set_refusals, insert_refusals}
 use Rattle.columns.specs.Cols.{columns}

@@ -1,9 +1,6 @@
 -- Cells, and the columns that they mean.
-use Rattle.std.specs.Prelude.{◌≡◌, ℕ, zero, suc, ◌+◌, ◌-◌, ◌<◌, ◌≤◌, true, false, cond, ◌⊎◌, List, [], ◌∷◌, ◌++◌, map, length, take, drop, slice_index_or, slice_set, refl}
-use Rattle.std.proofs.Common.{sym, ap, subst, ◌∙◌, inl, inr, arith}
-use Rattle.std.proofs.Math.Logic.{∥∥₁_elim}
-use base.Stored.{Coded, Coded-set, coded_via, coded×, coded_list, coded_ℕ}
-use Rattle.std.specs.List.{AllByRecursion}
+use Rattle.std.specs.Prelude.{◌≡◌, ℕ, ◌+◌, ◌-◌, ◌<◌, true, false, cond, List, [], ◌∷◌, ◌++◌, length, take, drop, slice_index_or, slice_set}
+use Rattle.std.proofs.Common.{sym, ap, ◌∙◌, inl, inr}
 use Rattle.std.proofs.lemmas.List.{get_or-map, take-map, drop-map, map-append, map_push, map-set, length-map, length-drop}
 use Rattle.std.proofs.lemmas.Bool.{eqb-true, eqb-false}
 use Rattle.cells.specs.Cells.{Shown, meaning, blank_with}
@@ -12,10 +9,8 @@ use Rattle.rows.specs.Spread.{wide, columns_of}
 use Rattle.rows.specs.Columns.{Whole, shown, without}
 use Rattle.rows.specs.Bounds.{Sized}
 use Rattle.rows.specs.Lists.{span}
-use Rattle.rows.proofs.Sizes.{two, sized_cells}
+use Rattle.rows.proofs.Sizes.{two}
 use Rattle.rows.proofs.Wholes.{whole_as, whole_drop}
-use Rattle.rows.proofs.Spans.{span_shown}
-use Rattle.rows.proofs.Kept.{all_shown}
 use Rattle.columns.specs.Cols.{columns}
 use Rattle.columns.specs.Laws.{span_cols}
 

@@ -1,6 +1,6 @@
 -- A list moved one to the right, step by step.
 use Rattle.std.proofs.Common.{◌≡◌, ℕ, zero, suc, ◌+◌, ◌-◌, ◌<◌, ◌≤◌, List, [], ◌∷◌, ◌++◌, length, get_or, take, drop, set, sym, refl, ap, ◌∙◌, add-one, arith}
-use Rattle.std.proofs.lemmas.List.{append_assoc, append-nil, drop_all, drop_more, take_more, take_all, take_at, set_at, length-take-le, get_or_at, length-append, length-drop, length-take, drop-drop, take-take}
+use Rattle.std.proofs.lemmas.List.{append_assoc, append-nil, drop_all, drop_more, take_more, take_at, set_at, length-take-le, get_or_at, length-append, length-drop, drop-drop, take-take}
 
 module _ {X : Type 0} (s was : List X) (c h : X) (i : ℕ) (l : i < length was) (e : s ≡ take i (c ∷ was) ++ drop i was) where
   front : length (take i (c ∷ was)) ≡ i

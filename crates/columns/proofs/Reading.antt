@@ -1,16 +1,16 @@
 -- Columns read one cell after the other, and the last cell.
-use Rattle.std.proofs.Common.{◌≡◌, ℕ, zero, suc, ◌+◌, ◌-◌, ◌<◌, ◌≤◌, Bool, true, false, cond, ◌⊎◌, List, [], ◌∷◌, ◌++◌, length, get_or, take, drop, Some, None, sym, refl, ap, ◌∙◌, subst, inl, inr, arith}
+use Rattle.std.proofs.Common.{◌≡◌, ℕ, zero, suc, ◌+◌, ◌<◌, ◌≤◌, true, false, List, [], ◌∷◌, ◌++◌, length, get_or, take, drop, Some, None, sym, refl, ap, ◌∙◌, inl, inr, arith}
 use Rattle.std.proofs.lemmas.Bool.{cases_Bool, both_ways}
 use Rattle.std.proofs.lemmas.List.{append-nil, length-drop, take_more, drop_more, drop_all, drop-drop, take-append-drop}
 use Rattle.std.specs.List.{slice_get}
 use Rattle.cells.specs.Cells.{Shown}
 use Rattle.rows.specs.Lists.{span}
-use Rattle.rows.specs.Spread.{wide, columns_of, spread, placed}
+use Rattle.rows.specs.Spread.{wide, columns_of, placed}
 use Rattle.rows.specs.Columns.{column_of, reads, shown, Whole, wide_at, inside, over}
 use Rattle.rows.specs.Lasts.{on_last}
 use Rattle.rows.specs.Packing.{without_last}
 use Rattle.rows.specs.Bounds.{Sized}
-use Rattle.rows.proofs.Wholes.{Paired, paired, shown_append, shown_spread, whole_take, whole_append, whole_columns}
+use Rattle.rows.proofs.Wholes.{Paired, paired, shown_append, shown_spread, whole_take, whole_columns}
 use Rattle.rows.proofs.Spans.{span_append, nth_placed, none_placed}
 use Rattle.rows.proofs.Agreement.{on_last_push}
 use Rattle.columns.specs.Cols.{Last}

@@ -1,10 +1,10 @@
 -- Single writes, as the definitions on columns say them.
-use Rattle.std.proofs.Common.{◌≡◌, ℕ, zero, suc, ◌+◌, ◌-◌, ◌<◌, ◌≤◌, Bool, true, false, cond, List, [], ◌∷◌, ◌++◌, length, get_or, take, drop, set, replicate, sym, refl, ap, ◌∙◌, subst, arith}
-use Rattle.std.proofs.lemmas.List.{set_split, take_all, drop_all, append_assoc, append-nil, length-append, length-take-le, take_at, drop_at, take-append-le, drop-drop, replicate_more, length-drop}
+use Rattle.std.proofs.Common.{◌≡◌, ℕ, zero, suc, ◌+◌, ◌-◌, ◌<◌, ◌≤◌, true, false, List, [], ◌∷◌, ◌++◌, length, get_or, take, drop, set, sym, refl, ap, ◌∙◌, arith}
+use Rattle.std.proofs.lemmas.List.{take_all, drop_all, append_assoc, append-nil, length-append, length-take-le, take_at, drop_at, drop-drop, replicate_more}
 use Rattle.cells.specs.Cells.{Shown, blank_with, plain_blank}
 use Rattle.cells.specs.Kinds.{Kind}
 use Rattle.rows.specs.Spread.{wide, columns_of}
-use Rattle.rows.specs.Columns.{blank_at, blanked, padded, over, between, without}
+use Rattle.rows.specs.Columns.{blank_at, blanked, padded, over}
 use Rattle.rows.specs.Bounds.{Sized}
 use Rattle.columns.proofs.Means.{wide_is, narrow_is, wide_columns, narrow_columns}
 

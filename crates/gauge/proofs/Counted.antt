@@ -1,6 +1,5 @@
 -- Counts over the pieces of a text, and what is left of them.
-use Rattle.std.proofs.Common.{◌≡◌, ℕ, zero, suc, ◌+◌, ◌-◌, ◌*◌, ◌^◌, ◌<◌, ◌≤◌, Bool, true, false, cond, ◌||◌, ltb, List, [], ◌∷◌, length, take, drop, sym, refl, ap, ◌∙◌, arith}
-use Rattle.std.proofs.lemmas.List.{length-drop}
+use Rattle.std.proofs.Common.{◌≡◌, ℕ, zero, suc, ◌+◌, ◌-◌, ◌*◌, ◌^◌, ◌<◌, ◌≤◌, Bool, true, false, cond, ◌||◌, ltb, List, [], ◌∷◌, length, drop, refl, ap, ◌∙◌, arith}
 use Rattle.cells.specs.Cleaning.{clean}
 use Rattle.splitters.specs.Pieces.{Part, parts, placed, pieces, cut}
 use Rattle.splitters.specs.Splits.{Splits, columns}

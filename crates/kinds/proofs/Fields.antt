@@ -1,7 +1,7 @@
 -- Bit operations on the colour kind's number.
 use Rattle.std.proofs.Common.{◌≡◌, ℕ, zero, suc, ◌+◌, ◌-◌, ◌*◌, ◌/◌, ◌%◌, ◌^◌, ◌<◌, Bool, true, false, cond, sym, refl, ap, ◌∙◌, arith}
 use lib.Bits.{bit_and, bit_or, and_mask, and_high, and_block, or_block, or_zero_r, or_shifted_r}
-use Rattle.kinds.specs.Bitfields.{flag_bit, type_bits, with_flag}
+use Rattle.kinds.specs.Bitfields.{type_bits, with_flag}
 use Rattle.cells.specs.Kinds.{named}
 use Rattle.cells.specs.declared.semantic.SemanticType.TheVariants.{Prompt}
 

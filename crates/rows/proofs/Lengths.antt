@@ -1,5 +1,5 @@
 -- How many columns parts of a row take.
-use Rattle.std.proofs.Common.{◌≡◌, ℕ, zero, suc, ◌+◌, ◌≤◌, List, [], ◌∷◌, ◌++◌, take, drop, arith}
+use Rattle.std.proofs.Common.{ℕ, zero, suc, ◌≤◌, List, [], ◌∷◌, take, drop, arith}
 use Rattle.cells.specs.Cells.{Shown}
 use Rattle.rows.specs.Lists.{span}
 

@@ -1,14 +1,13 @@
 -- Cells are read back from their texts, bits and runs.
-use Rattle.std.specs.Prelude.{◌≡◌, ℕ, zero, suc, ◌+◌, ◌-◌, ◌<◌, ◌≤◌, Bool, true, false, cond, not, ◌&&◌, ◌||◌, ◌⊎◌, List, [], ◌∷◌, ◌++◌, map, length, Some, None, Ok, Err, Option, Result, ◌==◌, nat_eq, nat_lt, refl}
+use Rattle.std.specs.Prelude.{◌≡◌, ℕ, zero, suc, ◌+◌, ◌-◌, ◌<◌, ◌≤◌, Bool, true, false, cond, ◌||◌, List, [], ◌∷◌, ◌++◌, length, Some, None, Ok, Err, Option, Result, ◌==◌, nat_eq, nat_lt, refl}
 use Rattle.std.proofs.Common.{sym, ap, ◌∙◌, subst, inl, inr, ⊎_elim, arith}
 use Rattle.std.specs.List.{AllByRecursion}
-use Rattle.std.proofs.lemmas.List.{length-append}
-use Rattle.std.proofs.lemmas.Bool.{cases_order, cases_Bool, ltb-false, le-ltb, cond-true, cond-false, true≢false, false≢true, eq-eqb, ne_eqb, eqb-true}
+use Rattle.std.proofs.lemmas.Bool.{cases_order, ltb-false, le-ltb, cond-true, cond-false, eq-eqb, ne_eqb}
 use Rattle.cells.specs.Cells.{Shown, meaning, blank_with}
-use Rattle.cells.specs.Cleaning.{clean, unclean}
+use Rattle.cells.specs.Cleaning.{clean}
 use Rattle.cells.specs.Kinds.{Kind}
 use Rattle.cells.specs.Refusals.{first_of, verdict}
-use Rattle.cells.specs.Words.{Text, made, word_refusals, text_of, has_zero, bad_width, is_space}
+use Rattle.cells.specs.Words.{Text, made, word_refusals, text_of, has_zero, bad_width}
 use Rattle.cells.specs.declared.cell.Cell.{Cell}
 use Rattle.cells.specs.declared.refusal.Refusal.{Refusal}
 use Rattle.cells.specs.declared.refusal.Refusal.TheVariants.{NotOnePiece, TooLong, BadWidth}
@@ -20,7 +19,7 @@ use Rattle.rows.specs.Columns.{wide_at}
 use Rattle.rows.specs.Lists.{span}
 use Rattle.rows.specs.Spread.{wide, columns_of, spread}
 use Rattle.rows.proofs.Sizes.{Two, two}
-use Rattle.rows.proofs.Spans.{length_spread, span_append}
+use Rattle.rows.proofs.Spans.{length_spread}
 use Rattle.rows.proofs.Wholes.{spread_append}
 use Rattle.runs.specs.declared.run.Run.{Run}
 use Rattle.runs.specs.Dressing.{width_by, shows, dress, texts}

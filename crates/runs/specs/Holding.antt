@@ -1,9 +1,9 @@
 -- Memory that holds cells: what is held is read back, one more cell, and one fewer.
-use Rattle.std.specs.Prelude.{◌≡◌, ℕ, zero, suc, ◌+◌, ◌-◌, ◌<◌, ◌≤◌, Bool, true, false, cond, not, ◌||◌, ◌⊎◌, List, [], ◌∷◌, ◌++◌, map, length, take, drop, Some, None, vec_items, Option, ◌==◌, nat_lt, refl}
-use Rattle.std.proofs.Common.{sym, ap, ◌∙◌, subst, inl, inr, ⊎_elim, arith}
+use Rattle.std.specs.Prelude.{◌≡◌, ℕ, ◌+◌, ◌-◌, ◌<◌, ◌≤◌, Bool, true, false, cond, ◌||◌, List, [], ◌∷◌, ◌++◌, length, take, drop, Some, None, vec_items, Option, ◌==◌, nat_lt, refl}
+use Rattle.std.proofs.Common.{sym, ap, ◌∙◌, subst, ⊎_elim, arith}
 use Rattle.std.specs.List.{AllByRecursion}
 use Rattle.std.proofs.ByRecursion.{All-push}
-use Rattle.std.proofs.lemmas.List.{length-append, length_push, map_push, drop_at, append-nil, append_cancel_right, take-append-drop}
+use Rattle.std.proofs.lemmas.List.{length-append, length_push, map_push, drop_at, append_cancel_right, take-append-drop}
 use Rattle.std.proofs.lemmas.Bool.{cond-true, cond-false, ltb-false, eqb-true, not-false, or_parts, or_left, or_right, lt-ltb, le-ltb, eq-eqb, ne_eqb, cases_eq}
 use Rattle.cells.specs.Cells.{Shown}
 use Rattle.cells.specs.Kinds.{Kind}
@@ -18,7 +18,7 @@ use Rattle.splitters.proofs.Cutting.{flat_pieces}
 use Rattle.rows.specs.Bounds.{Sized}
 use Rattle.rows.specs.Columns.{wide_at}
 use Rattle.rows.specs.Givens.{cell_refusals}
-use Rattle.rows.specs.Lists.{span, last_of}
+use Rattle.rows.specs.Lists.{span}
 use Rattle.rows.specs.Packing.{or_else, take_refusal, without_last, fuses, bytes_needed, runs_needed, lacks, run_rule}
 use Rattle.rows.specs.Spread.{wide, spread}
 use Rattle.rows.proofs.Spans.{length_spread, span_append}

@@ -1,11 +1,11 @@
 -- The pieces of a text with one more piece behind it, and without its last one.
-use Rattle.std.specs.Prelude.{◌≡◌, ℕ, zero, suc, ◌+◌, ◌-◌, ◌<◌, ◌≤◌, min, Bool, true, false, List, [], ◌∷◌, ◌++◌, length, take, drop, nat_lt, refl}
+use Rattle.std.specs.Prelude.{◌≡◌, ℕ, zero, suc, ◌-◌, ◌<◌, ◌≤◌, min, Bool, true, false, List, [], ◌∷◌, ◌++◌, length, take, drop, nat_lt, refl}
 use Rattle.std.proofs.Common.{sym, ap, ◌∙◌, subst, ⊎_elim, append-nil, arith}
 use Rattle.std.proofs.lemmas.List.{length-append, length-drop, length-take-le, drop_all, take_all, take-append-le, drop-append-le, take_at, drop_at, take-append-drop, append_assoc}
 use Rattle.std.proofs.lemmas.Bool.{cases_lt, ltb-false}
 use Rattle.splitters.specs.Splits.{Splits}
 use Rattle.splitters.specs.Pieces.{cut, pieces, flat}
-use Rattle.splitters.proofs.Cutting.{cut_fuel, flat_cut, flat_pieces}
+use Rattle.splitters.proofs.Cutting.{cut_fuel, flat_cut}
 use Rattle.rows.specs.Packing.{without_last}
 use Rattle.runs.specs.Dressing.{last_piece}
 

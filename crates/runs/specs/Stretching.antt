@@ -1,13 +1,13 @@
 -- Runs of cells with equal attributes.
-use Rattle.std.specs.Prelude.{◌≡◌, ℕ, zero, suc, ◌+◌, ◌-◌, ◌<◌, ◌≤◌, Bool, true, false, cond, not, ◌&&◌, ◌⊎◌, List, [], ◌∷◌, ◌++◌, map, length, take, replicate, ◌==◌, nat_lt, slice_index_or, slice_set, refl}
-use Rattle.std.proofs.Common.{sym, ap, ◌∙◌, subst, inl, inr, ⊎_elim, arith}
+use Rattle.std.specs.Prelude.{◌≡◌, ℕ, zero, suc, ◌+◌, ◌-◌, ◌<◌, ◌≤◌, true, false, cond, not, ◌&&◌, List, [], ◌∷◌, ◌++◌, map, length, take, replicate, ◌==◌, nat_lt, slice_index_or, slice_set, refl}
+use Rattle.std.proofs.Common.{sym, ap, ◌∙◌, subst, ⊎_elim, arith}
 use Rattle.std.proofs.lemmas.List.{length-set, length_push}
-use Rattle.std.proofs.lemmas.Bool.{cases_lt, cases_Bool, ltb-false, lt-ltb, le-ltb, cond-true, cond-false, true≢false, false≢true, and_parts, and_from, eq-eqb, eqb-true}
+use Rattle.std.proofs.lemmas.Bool.{cases_Bool, lt-ltb, le-ltb, cond-true, cond-false, true≢false, false≢true, and_parts, and_from, eq-eqb, eqb-true}
 use Rattle.cells.specs.Cells.{Shown}
 use Rattle.cells.specs.Kinds.{Kind}
-use Rattle.rows.specs.Packing.{unlike, runs_needed, without_last}
+use Rattle.rows.specs.Packing.{runs_needed}
 use Rattle.runs.specs.declared.run.Run.{Run}
-use Rattle.runs.specs.Runs.{run, join, stretches, extend, past, shrink, begun, total, same_runs, Apart, spread_out}
+use Rattle.runs.specs.Runs.{run, join, stretches, extend, past, shrink, total, same_runs, Apart, spread_out}
 
 module _ {A : Type 0} where
   -- each run has a cell

@@ -1,9 +1,9 @@
 -- A text cut into pieces.
-use Rattle.std.proofs.Common.{◌≡◌, ℕ, zero, suc, ◌+◌, ◌-◌, ◌<◌, ◌≤◌, min, max, true, List, [], ◌∷◌, ◌++◌, length, take, drop, sym, refl, ap, ◌∙◌, subst, ⊎_elim, arith}
-use Rattle.std.proofs.lemmas.List.{length-drop, length-take, length-take-le, drop_all, take_all, take-append-drop, drop-drop}
+use Rattle.std.proofs.Common.{◌≡◌, ℕ, zero, suc, ◌+◌, ◌-◌, ◌<◌, ◌≤◌, min, true, List, [], ◌∷◌, ◌++◌, length, take, drop, sym, refl, ap, ◌∙◌, ⊎_elim, arith}
+use Rattle.std.proofs.lemmas.List.{length-drop, length-take-le, drop_all, take_all, take-append-drop, drop-drop}
 use Rattle.std.proofs.lemmas.Bool.{cases_lt}
 use Rattle.cells.specs.Cleaning.{unclean}
-use Rattle.splitters.specs.Pieces.{cut, pieces, flat, Firsts, parts, placed}
+use Rattle.splitters.specs.Pieces.{cut, pieces, flat, Firsts, placed}
 use Rattle.splitters.specs.Reading.{step, left, Read}
 use Rattle.splitters.specs.Splits.{Splits}
 

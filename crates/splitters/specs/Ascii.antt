@@ -4,7 +4,7 @@
 -- ascii        the splitter
 -- (The other names are proofs of its laws.)
 use Rattle.std.specs.Prelude.{◌≡◌, ℕ, zero, suc, ◌<◌, ◌≤◌, min, Bool, true, false, cond, ◌&&◌, List, [], ◌∷◌, ◌++◌, length, take, drop, ◌==◌, nat_lt, slice_index, refl}
-use Rattle.std.proofs.Common.{sym, ap, ◌∙◌, arith}
+use Rattle.std.proofs.Common.{arith}
 use Rattle.std.proofs.lemmas.Bool.{false≢true, eqb-true}
 use Rattle.splitters.specs.Splits.{Splits}
 use Rattle.splitters.specs.declared.width.Width.TheVariants.{Narrow}

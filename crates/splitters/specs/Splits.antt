@@ -1,7 +1,7 @@
 -- What a splitter is.
 -- columns  how many columns each width takes
 -- Splits   which texts are good, how long the first piece of a text is, how wide a piece is; and the laws that these keep
-use Rattle.std.specs.Prelude.{◌≡◌, ℕ, ◌<◌, ◌≤◌, min, Bool, true, false, List, [], ◌∷◌, ◌++◌, length, take, drop, slice_index}
+use Rattle.std.specs.Prelude.{◌≡◌, ℕ, ◌<◌, ◌≤◌, min, Bool, true, List, [], ◌++◌, length, take, drop, slice_index}
 use Rattle.cells.specs.Cleaning.{space}
 use Rattle.splitters.specs.declared.width.Width.{Width}
 use Rattle.splitters.specs.declared.width.Width.TheVariants.{Narrow, Wide}

@@ -1,12 +1,12 @@
 -- The code points that are read are those whose encoding is the text.
-use Rattle.std.proofs.Common.{◌≡◌, ℕ, ◌+◌, ◌-◌, ◌*◌, ◌/◌, ◌%◌, ◌<◌, ◌≤◌, Bool, true, false, cond, ◌&&◌, ltb, leb, List, [], ◌∷◌, ◌++◌, sym, refl, ap, ◌∙◌, arith}
+use Rattle.std.proofs.Common.{◌≡◌, ℕ, ◌+◌, ◌/◌, ◌≤◌, true, List, [], ◌∷◌, ◌++◌, refl, ap, ◌∙◌, arith}
 use lib.Utf8.{scalar, scalars, encode, encodes, next}
 use Rattle.std.proofs.lemmas.Bool.{and_from}
 use Rattle.std.proofs.lemmas.Bool.Decides.{nat_tests}
 use Rattle.utf8_text.specs.Rfc3629.{Utf8Char, Utf8Octets}
 use Rattle.utf8_text.specs.Rfc3629.Utf8Char.{utf8_1, utf8_2, utf8_3_e0, utf8_3_e1, utf8_3_ed, utf8_3_ee, utf8_4_f0, utf8_4_f1, utf8_4_f4}
 use Rattle.utf8_text.specs.Rfc3629.Utf8Octets.{none, more}
-use Rattle.utf8_text.specs.Reading.{point_2, point_3, point_4, points, good}
+use Rattle.utf8_text.specs.Reading.{point_2, point_3, point_4, points}
 use Rattle.utf8_text.specs.Meaning.{Meaning}
 use Rattle.utf8_text.proofs.Grammar.{value, points_more, derived, exact}
 

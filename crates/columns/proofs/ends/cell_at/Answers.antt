@@ -1,6 +1,6 @@
-use Rattle.std.proofs.Common.{◌≡◌, ◌+◌, drop, sym, refl, ap, ◌∙◌, arith}
+use Rattle.std.proofs.Common.{◌≡◌, ◌+◌, drop, ap, ◌∙◌, arith}
 use Rattle.cells.specs.Cells.{meaning}
-use Rattle.rows.specs.Columns.{shown, column_of}
+use Rattle.rows.specs.Columns.{shown}
 use Rattle.std.specs.List.{slice_get}
 use Rattle.rows.specs.Spread.{placed}
 use Rattle.columns.specs.Cols.{columns}

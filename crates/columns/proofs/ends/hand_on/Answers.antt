@@ -1,10 +1,8 @@
-use Rattle.std.proofs.Common.{◌≡◌, ◌+◌, ◌≤◌, ltb, List, [], ◌∷◌, ◌++◌, length, drop, sym, refl, ap, ◌∙◌, arith}
+use Rattle.std.proofs.Common.{◌+◌, [], ◌∷◌, ◌++◌, drop, sym, ap, ◌∙◌, arith}
 use Rattle.std.proofs.lemmas.List.{append_assoc, append-nil}
-use Rattle.std.proofs.lemmas.Bool.{le-ltb}
 use Rattle.cells.specs.Cells.{meaning}
 use Rattle.rows.specs.Lists.{span}
 use Rattle.rows.specs.Rows.{unless}
-use Rattle.rows.specs.Packing.{grid_rule}
 use Rattle.rows.specs.Columns.{shown}
 use Rattle.rows.proofs.Spans.{span_append}
 use Rattle.columns.specs.Cols.{columns}

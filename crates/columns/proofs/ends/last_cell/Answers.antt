@@ -1,4 +1,4 @@
-use Rattle.std.proofs.Common.{◌≡◌, sym, refl, ap, ◌∙◌, arith}
+use Rattle.std.proofs.Common.{arith}
 use Rattle.cells.specs.Cells.{meaning}
 use Rattle.columns.specs.Cols.{columns}
 use Rattle.columns.proofs.Means.{length_cols, cols_read, sized_cell}

@@ -1,4 +1,4 @@
-use Rattle.std.proofs.Common.{◌≡◌, ◌+◌, sym, refl, ap, ◌∙◌, arith}
+use Rattle.std.proofs.Common.{◌+◌, sym, ◌∙◌, arith}
 use Rattle.columns.specs.Cols.{columns}
 use Rattle.columns.proofs.Means.{length_cols}
 use Rattle.columns.proofs.Seconds.{inside_past, parts_short, parts_first, parts_below, parts_above}

@@ -1,4 +1,4 @@
-use Rattle.std.proofs.Common.{◌≡◌, true, false, [], ◌∷◌, ◌++◌, take, drop, sym, refl, ap, ◌∙◌, arith, rules}
+use Rattle.std.proofs.Common.{◌≡◌, true, false, [], ◌∷◌, ◌++◌, take, drop, sym, ap, ◌∙◌, arith, rules}
 use Rattle.cells.specs.Cells.{meaning}
 use Rattle.rows.specs.Spread.{wide}
 use Rattle.columns.specs.Cols.{columns}

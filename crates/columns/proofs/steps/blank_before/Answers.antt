@@ -1,4 +1,4 @@
-use Rattle.std.proofs.Common.{◌≡◌, ◌-◌, set, sym, refl, ap, ◌∙◌, arith}
+use Rattle.std.proofs.Common.{◌-◌, set, sym, refl, ap, ◌∙◌, arith}
 use Rattle.cells.specs.Cells.{meaning}
 use Rattle.columns.specs.Cols.{columns}
 use Rattle.columns.proofs.Means.{cols_read, cols_set, length_cols}

@@ -1,4 +1,4 @@
-use Rattle.std.proofs.Common.{◌≡◌, List, [], ◌∷◌, ◌++◌, length, sym, refl, ap, ◌∙◌, arith}
+use Rattle.std.proofs.Common.{[], ◌∷◌, ◌++◌, length, sym, refl, ap, ◌∙◌, arith}
 use Rattle.rows.specs.Columns.{padded}
 use Rattle.columns.specs.Cols.{columns}
 use Rattle.columns.proofs.Means.{cols_push, length_cols}

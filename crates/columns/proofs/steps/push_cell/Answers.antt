@@ -1,7 +1,7 @@
-use Rattle.std.proofs.Common.{◌≡◌, sym, refl, ap, ◌∙◌, arith}
+use Rattle.std.proofs.Common.{◌∙◌, arith}
 use Rattle.cells.specs.Cells.{meaning}
 use Rattle.columns.specs.Cols.{columns}
-use Rattle.columns.proofs.Means.{length_cols, sized_cell}
+use Rattle.columns.proofs.Means.{length_cols}
 use Rattle.columns.proofs.Writes.{over_end}
 use Rattle.columns.proofs.steps.push_cell.Goals as goal
 

@@ -1,4 +1,4 @@
-use Rattle.std.proofs.Common.{◌≡◌, sym, refl, ap, ◌∙◌, add-one, arith, rules}
+use Rattle.std.proofs.Common.{refl, ◌∙◌, add-one, arith, rules}
 use Rattle.std.proofs.lemmas.List.{set_split}
 use Rattle.columns.proofs.Writes.{push_at}
 use Rattle.columns.proofs.steps.write.Goals as goal

@@ -1,4 +1,4 @@
-use Rattle.std.proofs.Common.{◌≡◌, sym, refl, ap, ◌∙◌, arith}
+use Rattle.std.proofs.Common.{sym, ap, ◌∙◌, arith}
 use Rattle.rows.specs.Givens.{any_long}
 use Rattle.columns.proofs.Cuts.{next_good, long_here, long_past, pieces_all}
 use Rattle.columns.proofs.texts.has_long.Goals as goal

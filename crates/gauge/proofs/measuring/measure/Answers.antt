@@ -1,4 +1,4 @@
-use Rattle.std.proofs.Common.{◌≡◌, ◌^◌, ◌<◌, List, ◌∷◌, length, sym, subst, arith, rules}
+use Rattle.std.proofs.Common.{◌^◌, ◌<◌, List, length, subst, rules}
 use Rattle.splitters.specs.Pieces.{Part, parts}
 use Rattle.splitters.specs.Reading.{part_of, left}
 use Rattle.gauge.proofs.Counted.{Counts, room, parts_length}

@@ -1,4 +1,4 @@
-use Rattle.std.proofs.Common.{◌≡◌, ◌-◌, sym, refl, ap, ◌∙◌, arith, rules}
+use Rattle.std.proofs.Common.{◌-◌, sym, refl, ◌∙◌, arith}
 use Rattle.runs.specs.Stretching.{shrink_more, shrink_last, shrink_none}
 use Rattle.runs.proofs.clusters.pop_run.Goals as goal
 

@@ -1,9 +1,9 @@
-use Rattle.std.proofs.Common.{◌≡◌, ℕ, ◌+◌, ◌-◌, ◌<◌, ◌≤◌, Bool, cond, List, [], ◌∷◌, ◌++◌, length, drop, sym, refl, ap, ◌∙◌, arith}
+use Rattle.std.proofs.Common.{◌≡◌, ℕ, ◌-◌, [], drop, sym, refl, ap, ◌∙◌, arith}
 use Rattle.std.proofs.lemmas.List.{nil_from_length}
 use Rattle.splitters.specs.Pieces.{pieces}
 use Rattle.rows.specs.Packing.{without_last}
-use Rattle.runs.specs.Bits.{bits_of, ones_in}
-use Rattle.runs.specs.Dressing.{last_piece, width_by}
+use Rattle.runs.specs.Bits.{bits_of}
+use Rattle.runs.specs.Dressing.{last_piece}
 use Rattle.runs.specs.Sounds.{cells}
 use Rattle.runs.specs.Holding.{lost, last_column}
 use Rattle.runs.proofs.dropping.drop_last.Goals as goal

@@ -1,4 +1,4 @@
-use Rattle.std.proofs.Common.{refl, arith}
+use Rattle.std.proofs.Common.{refl}
 use Rattle.runs.specs.Holding.{none_held}
 use Rattle.runs.proofs.emptying.clear.Goals as goal
 

@@ -1,4 +1,4 @@
-use Rattle.std.proofs.Common.{sym, ◌∙◌, arith}
+use Rattle.std.proofs.Common.{arith}
 use Rattle.runs.specs.Holding.{packed, needs_runs, needs_bytes}
 use Rattle.runs.proofs.reading.account.Goals as goal
 

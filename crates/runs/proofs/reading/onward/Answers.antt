@@ -1,4 +1,4 @@
-use Rattle.std.proofs.Common.{◌≡◌, ◌+◌, sym, refl, ap, ◌∙◌, arith}
+use Rattle.std.proofs.Common.{sym, refl, ◌∙◌, arith}
 use Rattle.runs.proofs.Placing.{past_leaves}
 use Rattle.runs.proofs.reading.onward.Goals as goal
 

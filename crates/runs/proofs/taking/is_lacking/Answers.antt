@@ -1,8 +1,7 @@
-use Rattle.std.proofs.Common.{◌≡◌, ◌+◌, ◌<◌, ◌≤◌, ltb, [], ◌∷◌, ◌++◌, length, sym, ap, ◌∙◌, arith}
+use Rattle.std.proofs.Common.{◌≡◌, ◌+◌, ltb, [], ◌∷◌, ◌++◌, sym, ap, ◌∙◌, arith}
 use Rattle.std.proofs.lemmas.Bool.{ltb-true, ltb-false}
 use Rattle.cells.specs.Cells.{meaning}
 use Rattle.rows.specs.Lists.{span}
-use Rattle.rows.specs.Packing.{runs_needed, bytes_needed}
 use Rattle.runs.specs.Sounds.{cells}
 use Rattle.runs.specs.Holding.{bytes_push, runs_push, span_push, lacks_runs, lacks_bytes, lacks_columns}
 use Rattle.runs.proofs.taking.is_lacking.Goals as goal

@@ -1,4 +1,4 @@
-use Rattle.std.proofs.Common.{◌≡◌, ℕ, ◌+◌, ◌-◌, ◌<◌, ◌≤◌, Bool, cond, eqb, List, [], ◌∷◌, ◌++◌, length, take, sym, refl, ap, ◌∙◌, arith}
+use Rattle.std.proofs.Common.{◌≡◌, ℕ, ◌-◌, eqb, [], ◌∷◌, ◌++◌, length, take, sym, refl, ap, ◌∙◌, arith}
 use Rattle.cells.specs.Cells.{meaning}
 use Rattle.cells.specs.Refusals.{verdict}
 use Rattle.cells.proofs.Laid.{text_length}
@@ -6,10 +6,8 @@ use Rattle.rows.specs.Lists.{span}
 use Rattle.rows.specs.Rows.{unless}
 use Rattle.runs.specs.Runs.{total, stretches}
 use Rattle.runs.specs.Sounds.{cells}
-use Rattle.splitters.specs.Pieces.{pieces}
-use Rattle.runs.specs.Bits.{bits_of}
-use Rattle.runs.specs.Decoding.{Worded, cell_worded, dress_worded, word, width_more, all_sized}
-use Rattle.runs.specs.Holding.{Accepted, accepted, took, count_span, span_push}
+use Rattle.runs.specs.Decoding.{cell_worded, word, width_more}
+use Rattle.runs.specs.Holding.{accepted, took, span_push}
 use Rattle.runs.specs.Stretching.{alike, total_stretches}
 use Rattle.runs.proofs.taking.take.Goals as goal
 

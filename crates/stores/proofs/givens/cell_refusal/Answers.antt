@@ -1,4 +1,4 @@
-use Rattle.std.proofs.Common.{arith, rules}
+use Rattle.std.proofs.Common.{arith}
 use Rattle.cells.proofs.Laid.{text_length}
 use Rattle.stores.proofs.givens.cell_refusal.Goals as goal
 

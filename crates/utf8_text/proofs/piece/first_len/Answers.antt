@@ -1,4 +1,4 @@
-use Rattle.std.proofs.Common.{◌≡◌, ◌+◌, length, drop, sym, ap, ◌∙◌, rules}
+use Rattle.std.proofs.Common.{◌+◌, drop, sym, ap, ◌∙◌, rules}
 use Rattle.std.proofs.lemmas.List.{take_rest, length-drop}
 use Rattle.utf8_text.specs.Reading.{points}
 use Rattle.utf8_text.specs.Pieces.{attached, sizes}

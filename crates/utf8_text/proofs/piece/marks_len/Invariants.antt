@@ -1,7 +1,6 @@
 use Rattle.std.proofs.Common.{◌≡◌, ◌+◌, ◌-◌, ◌≤◌, length, drop}
 use Rattle.utf8_text.specs.Reading.{points}
 use Rattle.utf8_text.specs.Pieces.{leading_marks, sizes}
-use Rattle.utf8_text.proofs.Points.{marks_none}
 use Rattle.utf8_text.proofs.piece.marks_len.Given as goal
 
 abbrev pub invariant-loop-c : goal.invariant-loop-c

@@ -1,4 +1,4 @@
-use Rattle.std.proofs.Common.{◌≡◌, ◌+◌, List, [], ◌∷◌, ◌++◌, sym, refl, ap, ◌∙◌, arith}
+use Rattle.std.proofs.Common.{◌+◌, ◌++◌, sym, refl, ap, ◌∙◌, arith}
 use Rattle.std.proofs.lemmas.Bool.{ltb-true, ltb-false}
 use Rattle.cells.specs.Cells.{meaning}
 use Rattle.cells.specs.declared.refusal.Refusal.TheVariants.{Full}
@@ -11,7 +11,6 @@ use Rattle.stores.specs.Stores.{append_cell}
 use Rattle.columns.specs.Cols.{columns, room_of}
 use Rattle.columns.proofs.Dones.{carried, refused, panel, room_left, room_none}
 use Rattle.columns.specs.Laws.{whole_of, span_cols}
-use Rattle.columns.proofs.Means.{sized_cell}
 use Rattle.columns.proofs.Reading.{shown_one}
 use Rattle.columns.proofs.edits.VecStorageFill.append_cell.Goals as goal
 

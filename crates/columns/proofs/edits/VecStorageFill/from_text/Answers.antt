@@ -1,4 +1,4 @@
-use Rattle.std.proofs.Common.{◌≡◌, ◌++◌, sym, refl, ap, ◌∙◌, arith}
+use Rattle.std.proofs.Common.{◌++◌, sym, refl, ap, ◌∙◌, arith}
 use Rattle.std.proofs.lemmas.Bool.{ltb-false}
 use Rattle.rows.specs.Lists.{span}
 use Rattle.rows.specs.Spread.{spread}
@@ -8,7 +8,7 @@ use Rattle.rows.specs.Edits.{from_text, text_refusals}
 use Rattle.rows.proofs.Wholes.{whole_as, whole_spread, shown_spread}
 use Rattle.rows.proofs.Refusing.{Clear, none_fits}
 use Rattle.columns.specs.Cols.{columns, room_of}
-use Rattle.columns.proofs.Dones.{carried, refused, panel, not_not}
+use Rattle.columns.proofs.Dones.{carried, panel, not_not}
 use Rattle.columns.proofs.edits.VecStorageFill.from_text.Goals as goal
 
 pub push_text-requires : goal.push_text-requires

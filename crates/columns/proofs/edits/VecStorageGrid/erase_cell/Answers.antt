@@ -1,4 +1,4 @@
-use Rattle.std.proofs.Common.{◌≡◌, [], ◌∷◌, ◌++◌, sym, refl, ap, ◌∙◌, arith}
+use Rattle.std.proofs.Common.{[], ◌∷◌, ◌++◌, ap, ◌∙◌, arith}
 use Rattle.cells.specs.Cells.{plain_blank}
 use Rattle.rows.specs.Columns.{without, blanked}
 use Rattle.rows.proofs.Wholes.{whole_as, whole_append, whole_blanks, whole_blanked, whole_without, inside_blanked}

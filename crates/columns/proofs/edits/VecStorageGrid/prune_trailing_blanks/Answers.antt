@@ -1,4 +1,4 @@
-use Rattle.std.proofs.Common.{◌≡◌, max, cond, ltb, length, sym, refl, ap, ◌∙◌, arith}
+use Rattle.std.proofs.Common.{max, cond, length, sym, refl, ap, ◌∙◌, arith}
 use Rattle.std.proofs.lemmas.Bool.{lt-ltb, le-ltb}
 use Rattle.rows.specs.Lists.{span}
 use Rattle.rows.specs.Columns.{shown}

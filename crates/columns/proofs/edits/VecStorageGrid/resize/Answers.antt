@@ -1,4 +1,4 @@
-use Rattle.std.proofs.Common.{◌≡◌, ltb, [], ◌∷◌, take, sym, refl, ap, ◌∙◌, arith}
+use Rattle.std.proofs.Common.{ltb, [], ◌∷◌, take, sym, ap, ◌∙◌, arith}
 use Rattle.std.proofs.lemmas.Bool.{le-ltb}
 use Rattle.cells.specs.declared.refusal.Refusal.TheVariants.{PastCapacity, PartsWide}
 use Rattle.rows.specs.Columns.{shown, inside, padded}

@@ -1,4 +1,4 @@
-use Rattle.std.proofs.Common.{◌≡◌, ◌+◌, true, false, cond, ◌&&◌, ltb, List, [], length, sym, refl, ap, ◌∙◌, arith}
+use Rattle.std.proofs.Common.{◌≡◌, ◌+◌, true, false, cond, ◌&&◌, ltb, length, sym, ap, ◌∙◌, arith}
 use Rattle.std.proofs.lemmas.Bool.{ltb-false}
 use Rattle.cells.specs.Cells.{meaning, is_plain}
 use Rattle.rows.specs.Columns.{shown, blanked, padded, over}
@@ -8,7 +8,7 @@ use Rattle.rows.proofs.Wholes.{whole_as, whole_blanked, whole_padded, whole_over
 use Rattle.columns.specs.Cols.{columns, room_of}
 use Rattle.columns.proofs.Dones.{panel, refused_columns, carried_columns, set_clear, set_cell_refused}
 use Rattle.columns.specs.Laws.{whole_of}
-use Rattle.columns.proofs.Means.{length_cols, sized_cell}
+use Rattle.columns.proofs.Means.{length_cols}
 use Rattle.columns.proofs.edits.VecStorageGrid.set_cell.Goals as goal
 
 pub returns-in-Some : goal.returns-in-Some

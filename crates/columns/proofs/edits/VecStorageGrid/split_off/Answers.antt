@@ -1,9 +1,8 @@
-use Rattle.std.proofs.Common.{◌≡◌, false, List, [], ◌∷◌, ◌++◌, length, take, drop, sym, refl, ap, ◌∙◌, arith}
-use Rattle.std.proofs.lemmas.List.{length-drop}
+use Rattle.std.proofs.Common.{◌++◌, drop, sym, ap, ◌∙◌, arith}
 use Rattle.cells.specs.declared.refusal.Refusal.TheVariants.{PartsWide, TooSmall}
 use Rattle.rows.specs.Lists.{span}
 use Rattle.rows.specs.Columns.{shown}
-use Rattle.rows.proofs.Wholes.{whole_as, whole_take, whole_drop}
+use Rattle.rows.proofs.Wholes.{whole_as, whole_take}
 use Rattle.stores.specs.Stores.{panel_of}
 use Rattle.columns.specs.Cols.{columns}
 use Rattle.columns.proofs.Dones.{first_refused, second_refused, first_carried, second_carried, split_parts, split_small, split_clear, emptied_cells, emptied_number}

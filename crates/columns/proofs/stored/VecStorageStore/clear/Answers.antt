@@ -1,4 +1,4 @@
-use Rattle.std.proofs.Common.{◌≡◌, sym, refl, ap, ◌∙◌, arith}
+use Rattle.std.proofs.Common.{refl, ap, arith}
 use Rattle.rows.proofs.Wholes.{whole_as}
 use Rattle.columns.specs.Cols.{columns}
 use Rattle.columns.proofs.stored.VecStorageStore.clear.Goals as goal

@@ -1,4 +1,4 @@
-use Rattle.std.proofs.Common.{◌≡◌, List, [], length, sym, refl, ap, ◌∙◌, arith}
+use Rattle.std.proofs.Common.{◌≡◌, List, length, refl, ap, ◌∙◌, arith}
 use Rattle.std.proofs.lemmas.List.{nil_from_length}
 use Rattle.cells.specs.Cells.{meaning}
 use Rattle.cells.specs.declared.cell.Cell.{Cell}
@@ -9,7 +9,7 @@ use Rattle.rows.proofs.Wholes.{whole_as}
 use Rattle.columns.specs.Cols.{columns}
 use Rattle.columns.proofs.Dones.{carried, panel}
 use Rattle.columns.specs.Laws.{whole_of}
-use Rattle.columns.proofs.Means.{cols_take, length_cols, sized_cell}
+use Rattle.columns.proofs.Means.{cols_take, sized_cell}
 use Rattle.columns.proofs.Reading.{last_front, last_gone}
 use Rattle.columns.proofs.stored.VecStorageStore.drop_last.Goals as goal
 

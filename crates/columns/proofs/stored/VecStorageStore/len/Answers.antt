@@ -1,4 +1,4 @@
-use Rattle.std.proofs.Common.{◌≡◌, sym, refl, ap, ◌∙◌, arith}
+use Rattle.std.proofs.Common.{arith}
 use Rattle.columns.specs.Laws.{whole_of, span_cols}
 use Rattle.columns.proofs.stored.VecStorageStore.len.Goals as goal
 

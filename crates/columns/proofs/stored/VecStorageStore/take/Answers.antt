@@ -1,4 +1,4 @@
-use Rattle.std.proofs.Common.{◌≡◌, ◌+◌, List, [], ◌∷◌, ◌++◌, sym, refl, ap, ◌∙◌, arith}
+use Rattle.std.proofs.Common.{◌+◌, ◌++◌, sym, refl, ap, ◌∙◌, arith}
 use Rattle.std.proofs.lemmas.Bool.{ltb-true, ltb-false}
 use Rattle.cells.specs.Cells.{meaning}
 use Rattle.cells.specs.declared.refusal.Refusal.TheVariants.{Full}
@@ -10,7 +10,6 @@ use Rattle.rows.proofs.Wholes.{whole_as, whole_append, whole_columns, shown_appe
 use Rattle.columns.specs.Cols.{columns, room_of}
 use Rattle.columns.proofs.Dones.{carried, refused, panel, room_left, room_none}
 use Rattle.columns.specs.Laws.{whole_of, span_cols}
-use Rattle.columns.proofs.Means.{sized_cell}
 use Rattle.columns.proofs.Reading.{shown_one}
 use Rattle.columns.proofs.stored.VecStorageStore.take.Goals as goal
 

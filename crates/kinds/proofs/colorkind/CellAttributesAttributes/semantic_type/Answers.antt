@@ -1,4 +1,4 @@
-use Rattle.std.proofs.Common.{◌≡◌, ℕ, sym, ap, ◌∙◌, arith}
+use Rattle.std.proofs.Common.{◌≡◌, ap, arith}
 use Rattle.kinds.specs.Bitfields.{type_bits}
 use Rattle.cells.specs.Kinds.{named}
 use Rattle.kinds.proofs.Fields.{type_and, named_rest}

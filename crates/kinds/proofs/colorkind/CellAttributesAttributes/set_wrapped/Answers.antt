@@ -1,6 +1,6 @@
-use Rattle.std.proofs.Common.{◌≡◌, ℕ, ◌^◌, ◌<◌, cond, sym, refl, ap, subst, arith, rules}
+use Rattle.std.proofs.Common.{◌≡◌, ℕ, ◌^◌, ◌<◌, cond, sym, refl, subst, rules}
 use Rattle.kinds.specs.Bitfields.{type_bits}
-use Rattle.kinds.specs.Colors.{by_parts, flagged, same_flagged}
+use Rattle.kinds.specs.Colors.{by_parts, flagged}
 use Rattle.kinds.proofs.Fields.{reflagged}
 use Rattle.kinds.proofs.colorkind.CellAttributesAttributes.set_wrapped.Goals as goal
 use Rattle.kinds.proofs.colorkind.CellAttributesAttributes.set_wrapped.Goals.{then-on, else-on}

@@ -1,6 +1,5 @@
 use Rattle.std.proofs.Common.{◌≡◌, ℕ, ◌+◌, ◌-◌, ◌<◌, Bool, true, false, List, ◌∷◌, length, take, drop, sym, refl, ap, ◌∙◌, arith, rules}
 use Rattle.cells.specs.Cleaning.{unclean}
-use Rattle.splitters.specs.Pieces.{Part}
 use Rattle.splitters.specs.Reading.{left, step}
 use Rattle.splitters.proofs.Cutting.{left_more, left_none, step_ends}
 use Rattle.splitters.proofs.pieces.Pieces.next.Goals as goal
