@@ -4,7 +4,7 @@
 -- ReadingBack  columns and cells say the same: the laws of `spread`, `shown`, lengths and places
 -- StaysWhole   every edit that is said of columns makes whole columns of whole ones, unless it is refused
 -- StaysWithin  every call leaves a row within its capacity, and so does any list of calls; `split_off` and `wrap` leave a second row within its own
-use Rattle.std.specs.Prelude.{◌≡◌, ℕ, ◌+◌, ◌<◌, ◌≤◌, true, false, List, [], ◌∷◌, ◌++◌, length, get_or, take, drop, Some, None, slice_index_or}
+use Rattle.std.specs.Prelude.{◌≡◌, ℕ, ◌+◌, ◌<◌, ◌≤◌, true, false, List, [], ◌∷◌, ◌++◌, length, take, drop, Some, None, slice_index_or}
 use Rattle.std.specs.List.{AllByRecursion, slice_get}
 use Rattle.cells.specs.Cells.{Shown, meaning, blank_with, plain_blank}
 use Rattle.cells.specs.declared.cell.Cell.{Cell}
@@ -38,7 +38,7 @@ pub record ReadingBack (A : Type 0) : Type 0 where
   pub none_placed : (cells : List (Shown A)) (n : ℕ) → length cells ≤ n → slice_get (placed cells) n ≡ None
   pub stands : (cells : List (Shown A)) (n : ℕ) (d : Shown A) → AllByRecursion Sized cells → n < length cells → slice_index_or (spread cells) (column_of n cells) d ≡ slice_index_or cells n d
   pub hides : (cells : List (Shown A)) (n : ℕ) (d : Shown A) → AllByRecursion Sized cells → n < length cells → wide (slice_index_or cells n d) ≡ true
-      → slice_index_or (spread cells) (column_of n cells + 1) d ≡ blank_with (get_or cells n d).attrs
+      → slice_index_or (spread cells) (column_of n cells + 1) d ≡ blank_with (slice_index_or cells n d).attrs
   pub starts : (cells : List (Shown A)) (n : ℕ) → AllByRecursion Sized cells → inside (column_of n cells) (spread cells) ≡ false
   pub seconds : (cells : List (Shown A)) (n : ℕ) (d : Shown A) → AllByRecursion Sized cells → n < length cells → inside (column_of n cells + 1) (spread cells) ≡ wide (slice_index_or cells n d)
 

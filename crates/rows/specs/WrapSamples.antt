@@ -3,11 +3,11 @@
 -- state         a row of a number and cells
 -- cell          a cell of width 1 with one byte of text
 -- wide          a cell of width 2
--- W             the wide cell of W
+-- wide_w        the wide cell of W
 -- row           the cells of a text in ASCII
--- aWb           the cells of "aWb"
+-- a_wide_b      the cells of "aWb"
 -- in_three      these, each in a row of its own, the flag on all but the final one
--- WrapSamples  the samples
+-- WrapSamples   the samples
 use Rattle.std.specs.Prelude.{◌≡◌, ℕ, true, false, List, [], ◌∷◌, ◌++◌, map, Some, codes}
 use Prim.Native.String.{String}
 use Rattle.cells.specs.Cells.{Shown, plain_blank}

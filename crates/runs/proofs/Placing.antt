@@ -13,8 +13,8 @@ use Rattle.rows.specs.Spread.{Placed, further, placed}
 use Rattle.runs.specs.declared.run.Run.{Run}
 use Rattle.runs.specs.Dressing.{width_by, shows, dress, last_piece}
 use Rattle.runs.specs.Runs.{run, past, begun}
-use Rattle.runs.specs.Decoding.{dress_far}
-use Rattle.runs.specs.Joining.{filled}
+use Rattle.runs.proofs.Decoding.{dress_far}
+use Rattle.runs.proofs.Joining.{filled}
 
 -- a piece that begins at b, of length n by the splitter, ends at r
 pub piece_step : (f : List ℕ → ℕ) (t : List ℕ) (b n r : ℕ) → b < length t → n ≡ f (drop b t) → r ≡ b + min (length t - b) (max 1 n)

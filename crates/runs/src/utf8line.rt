@@ -11,7 +11,7 @@ ghost use Rattle.runs.specs.Bits.{bits_of, ones_in};
 ghost use Rattle.runs.specs.Dressing.{texts, last_text};
 ghost use Rattle.runs.specs.Runs.{same_runs, stretches};
 ghost use Rattle.runs.specs.Sounds.{cells, held_of, left_at, Packed, rule_of};
-ghost use Rattle.runs.specs.Holding.{sound_sized};
+ghost use Rattle.runs.specs.Laws.{sound_sized};
 ghost use Rattle.std.proofs.Common.{rules, arith};
 
 use crate::account::Account;

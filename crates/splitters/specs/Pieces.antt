@@ -4,7 +4,7 @@
 -- flat    pieces joined
 -- Part    a piece with its place, and whether it is a control: whether cleaning changes it
 -- parts   the pieces of a text that stands at a place, each as a part
--- firsts  whether each piece is the first piece of what is left
+-- Firsts  whether each piece is the first piece of what is left
 use Rattle.std.specs.Prelude.{◌≡◌, ℕ, zero, suc, ◌+◌, ◌-◌, Bool, List, [], ◌∷◌, ◌++◌, length, take, drop}
 use Rattle.cells.specs.Cleaning.{unclean}
 

@@ -1,8 +1,8 @@
 -- UTF-8 by the grammar of RFC 3629, section 4.
 -- In           a byte lies in a range; both ends belong to it
--- UTF8-tail    a byte that is not the first of its character
--- UTF8-char    the bytes of one character: UTF8-1, UTF8-2, UTF8-3 or UTF8-4, with a case for each alternative of the grammar
--- UTF8-octets  any number of characters, one behind another
+-- Utf8Tail     a byte that is not the first of its character
+-- Utf8Char     the bytes of one character: UTF8-1, UTF8-2, UTF8-3 or UTF8-4, with a case for each alternative of the grammar
+-- Utf8Octets   any number of characters, one behind another
 use Rattle.std.specs.Prelude.{ℕ, ◌≤◌, List, [], ◌∷◌, ◌++◌}
 
 abbrev pub In : ℕ → ℕ → ℕ → Type 0

@@ -1,7 +1,7 @@
 use Rattle.std.proofs.Common.{◌≡◌, suc, ◌+◌, ◌-◌, cond, not, length, sym, ap, ◌∙◌, arith}
 use Rattle.std.proofs.lemmas.List.{length_push}
 use Rattle.runs.specs.Runs.{run}
-use Rattle.runs.specs.Stretching.{extend_none, extend_length}
+use Rattle.runs.proofs.Stretching.{extend_none, extend_length}
 use Rattle.runs.proofs.clusters.begins_run.Goals as goal
 
 pub returns-then-n-eq0 : goal.returns-then-n-eq0

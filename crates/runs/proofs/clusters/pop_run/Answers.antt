@@ -1,5 +1,5 @@
 use Rattle.std.proofs.Common.{◌-◌, sym, refl, ◌∙◌, arith}
-use Rattle.runs.specs.Stretching.{shrink_more, shrink_last, shrink_none}
+use Rattle.runs.proofs.Stretching.{shrink_more, shrink_last, shrink_none}
 use Rattle.runs.proofs.clusters.pop_run.Goals as goal
 
 pub returns-then-n-eq0 : goal.returns-then-n-eq0

@@ -1,7 +1,7 @@
 use Rattle.std.proofs.Common.{◌≡◌, ◌-◌, [], ◌∷◌, ◌++◌, length, sym, refl, ap, ◌∙◌, arith}
 use Rattle.std.proofs.lemmas.List.{length_push}
 use Rattle.runs.specs.Runs.{run, extend}
-use Rattle.runs.specs.Stretching.{extend_none, extend_like, extend_unlike, total_part}
+use Rattle.runs.proofs.Stretching.{extend_none, extend_like, extend_unlike, total_part}
 use Rattle.runs.proofs.clusters.push_run.Goals as goal
 use Rattle.runs.proofs.clusters.push_run.Goals.{then-n-gt0+else-same, else-n-gt0}
 

@@ -5,7 +5,7 @@ use Rattle.rows.specs.Packing.{without_last}
 use Rattle.runs.specs.Bits.{bits_of}
 use Rattle.runs.specs.Dressing.{last_piece}
 use Rattle.runs.specs.Sounds.{cells}
-use Rattle.runs.specs.Holding.{lost, last_column}
+use Rattle.runs.proofs.Holding.{lost, last_column}
 use Rattle.runs.proofs.dropping.drop_last.Goals as goal
 
 pub returns-then-s-eq0 : goal.returns-then-s-eq0

@@ -1,5 +1,5 @@
 use Rattle.std.proofs.Common.{refl}
-use Rattle.runs.specs.Holding.{none_held}
+use Rattle.runs.proofs.Holding.{none_held}
 use Rattle.runs.proofs.emptying.clear.Goals as goal
 
 pub returns : goal.returns

@@ -1,5 +1,5 @@
 use Rattle.std.proofs.Common.{◌≡◌, ℕ, min, [], ◌∷◌, refl, ap, ◌∙◌}
-use Rattle.runs.specs.Holding.{none_held}
+use Rattle.runs.proofs.Holding.{none_held}
 use Rattle.runs.proofs.emptying.new.Goals as goal
 
 pub returns : goal.returns

@@ -1,5 +1,5 @@
 use Rattle.std.proofs.Common.{arith}
-use Rattle.runs.specs.Holding.{packed, needs_runs, needs_bytes}
+use Rattle.runs.proofs.Holding.{packed, needs_runs, needs_bytes}
 use Rattle.runs.proofs.reading.account.Goals as goal
 
 pub returns : goal.returns

@@ -7,8 +7,8 @@ use Rattle.runs.specs.Bits.{bits_of}
 use Rattle.runs.specs.Dressing.{last_text}
 use Rattle.runs.specs.Sounds.{cells}
 use Rattle.splitters.specs.Pieces.{pieces}
-use Rattle.runs.specs.Decoding.{dress_worded}
-use Rattle.runs.specs.Holding.{fuses_by, last_short}
+use Rattle.runs.specs.Laws.{dress_worded}
+use Rattle.runs.proofs.Holding.{fuses_by, last_short}
 use Rattle.runs.proofs.taking.is_fusing.Goals as goal
 
 pub returns-then-s-eq0 : goal.returns-then-s-eq0

@@ -3,7 +3,7 @@ use Rattle.std.proofs.lemmas.Bool.{ltb-true, ltb-false}
 use Rattle.cells.specs.Cells.{meaning}
 use Rattle.rows.specs.Lists.{span}
 use Rattle.runs.specs.Sounds.{cells}
-use Rattle.runs.specs.Holding.{bytes_push, runs_push, span_push, lacks_runs, lacks_bytes, lacks_columns}
+use Rattle.runs.proofs.Holding.{bytes_push, runs_push, span_push, lacks_runs, lacks_bytes, lacks_columns}
 use Rattle.runs.proofs.taking.is_lacking.Goals as goal
 
 pub returns-then-lacks_runs : goal.returns-then-lacks_runs

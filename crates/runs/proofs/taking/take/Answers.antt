@@ -6,9 +6,10 @@ use Rattle.rows.specs.Lists.{span}
 use Rattle.rows.specs.Rows.{unless}
 use Rattle.runs.specs.Runs.{total, stretches}
 use Rattle.runs.specs.Sounds.{cells}
-use Rattle.runs.specs.Decoding.{cell_worded, word, width_more}
-use Rattle.runs.specs.Holding.{accepted, took, span_push}
-use Rattle.runs.specs.Stretching.{alike, total_stretches}
+use Rattle.runs.specs.Laws.{word}
+use Rattle.runs.proofs.Decoding.{cell_worded, width_more}
+use Rattle.runs.proofs.Holding.{accepted, took, span_push}
+use Rattle.runs.proofs.Stretching.{alike, total_stretches}
 use Rattle.runs.proofs.taking.take.Goals as goal
 
 pub slice_bounds-text-end : goal.slice_bounds-text-end

@@ -23,14 +23,11 @@ use Rattle.rows.proofs.Spans.{length_spread}
 use Rattle.rows.proofs.Wholes.{spread_append}
 use Rattle.runs.specs.declared.run.Run.{Run}
 use Rattle.runs.specs.Dressing.{width_by, shows, dress, texts}
+use Rattle.runs.specs.Laws.{Worded}
 use Rattle.runs.specs.Runs.{run, join, stretches, past}
-use Rattle.runs.specs.Stretching.{past_join, stretches_filled}
+use Rattle.runs.proofs.Stretching.{past_join, stretches_filled}
 
 -- ---- words
-unmade : (o : Option Refusal) (t u : Text) → verdict o t ≡ Ok u → (o ≡ None) × (t ≡ u)
-unmade None t u e = (refl, cc)
-unmade (Some why) t u e = let z : ◌≡◌ {A = ℕ} 0 1 = cc in absurd (omega arith)
-
 no_zero : (t : List ℕ) → Solid t → has_zero t ≡ false
 no_zero [] s = refl
 no_zero (b ∷ t) s = let h : 0 < b = s.0 in ap (λ (x : Bool). x || has_zero t) (ne_eqb b 0 (λ e. absurd (omega arith))) ∙ no_zero t s.1
@@ -40,32 +37,7 @@ unfolding text_of
 solid_word w = no_zero (text_of w) (in_solid 7 w)
 
 module _ {A : Type 0} where
-  -- a word holds the cell's text and width
-  abbrev pub Worded : Shown A → Type 0
-  Worded c = made (clean c.text) c.width ≡ Ok (record { text = c.text; width = c.width })
-
-  pub record Word (c : Shown A) : Type 0 where
-    pub some : 0 < length c.text
-    pub few : length c.text ≤ 7
-    pub sized : Sized c
-
-  pub word : (c : Shown A) → Worded c → Word c
-  word c e =
-      let u = unmade (first_of (word_refusals (clean c.text) c.width)) (record { text = clean c.text; width = c.width }) (record { text = c.text; width = c.width }) e in
-      let t : clean c.text ≡ c.text = ap (λ (x : Text). x.text) u.1 in
-      let n = none_fits (word_refusals (clean c.text) c.width) u.0 in
-      let b : bad_width c.text c.width ≡ false = ap (λ (x : List ℕ). bad_width x c.width) (sym t) ∙ n.1.1.0 in
-      record {
-        some = subst (λ (x : List ℕ). 0 < length x) t (nonempty (clean c.text) (clean_is_clean c.text));
-        few = subst (λ (x : List ℕ). length x ≤ 7) t (ltb-false 7 (length (clean c.text)) n.1.0);
-        sized = b;
-      }
-
-  pub all_sized : (cs : List (Shown A)) → AllByRecursion Worded cs → AllByRecursion Sized cs
-  all_sized [] h = tt
-  all_sized (c ∷ cs) h = ((word c h.0).sized, all_sized cs h.1)
-
-  -- every cell is
+  -- each cell is what its word holds
   pub cell_worded : (c : Cell A) → Worded (meaning c)
   cell_worded c =
       let t : List ℕ = (meaning c).text in
@@ -74,21 +46,6 @@ module _ {A : Type 0} where
       ∙ ap (λ (x : Bool). verdict (first_of ((x, NotOnePiece) ∷ (nat_lt 7 (length t), TooLong) ∷ (bad_width t w, BadWidth) ∷ [])) (record { text = t; width = w })) (solid_word c.text.word)
       ∙ ap (λ (x : Bool). verdict (first_of ((x, TooLong) ∷ (bad_width t w, BadWidth) ∷ [])) (record { text = t; width = w })) (le-ltb 7 (length t) (text_length c.text.word))
       ∙ ap (λ (x : Bool). verdict (first_of ((x, BadWidth) ∷ [])) (record { text = t; width = w })) c.text.narrow
-
-  shows_worded : (p : List ℕ) (w : ℕ) (o : Result Text Refusal) (a : A) (rest : List (Shown A)) → made (clean p) w ≡ o → AllByRecursion Worded rest → AllByRecursion Worded (shows o a rest)
-  shows_worded p w (Err why) a rest e h = tt
-  shows_worded p w (Ok t) a rest e h =
-      let u : record { text = clean p; width = w } ≡ t = (unmade (first_of (word_refusals (clean p) w)) (record { text = clean p; width = w }) t e).1 in
-      let m : made (clean (clean p)) w ≡ Ok (record { text = clean p; width = w }) = ap (λ (x : List ℕ). made x w) (clean_twice p) ∙ e ∙ ap (λ (x : Text). Ok x) (sym u) in
-      (subst (λ (x : Text). made (clean x.text) x.width ≡ Ok (record { text = x.text; width = x.width })) u m, h)
-
-  -- and so is every cell that is read
-  pub dress_worded : (bits : ℕ → Bool) (ps : List (List ℕ)) (x : ℕ) (rs : List (Run A)) → AllByRecursion Worded (dress bits ps x rs)
-  dress_worded bits [] x rs = tt
-  dress_worded bits (p ∷ ps) x [] = tt
-  dress_worded bits (p ∷ ps) x (r ∷ rs) =
-      shows_worded p (width_by (bits x)) (made (clean p) (width_by (bits x))) r.attrs (dress bits ps (x + width_by (bits x)) (past (r ∷ rs))) refl
-      (dress_worded bits ps (x + width_by (bits x)) (past (r ∷ rs)))
 
   -- ---- the columns in which wide cells start
   wide_two : (c : Shown A) → Two c → width_by (wide c) ≡ c.width

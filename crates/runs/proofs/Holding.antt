@@ -28,9 +28,10 @@ use Rattle.runs.specs.Bits.{bits_of, ones_in}
 use Rattle.runs.specs.Dressing.{width_by, dress, texts, last_text, last_piece}
 use Rattle.runs.specs.Runs.{stretches, extend, shrink, same_runs, Apart, spread_out}
 use Rattle.runs.specs.Sounds.{cells, Holds, Sound, Packed}
-use Rattle.runs.specs.Decoding.{Worded, word, all_sized, dress_worded, width_wide, width_more, wide_past, wide_push, last_wide, marked_wide, read_back}
-use Rattle.runs.specs.Joining.{fuses_last, joined_pieces, rest_pieces}
-use Rattle.runs.specs.Stretching.{alike, even_from, stretches_push, stretches_filled, shrink_extend, stretches_apart, stretches_out, runs_length}
+use Rattle.runs.specs.Laws.{Worded, word, all_sized, dress_worded}
+use Rattle.runs.proofs.Decoding.{width_wide, width_more, wide_past, wide_push, last_wide, marked_wide, read_back}
+use Rattle.runs.proofs.Joining.{fuses_last, joined_pieces, rest_pieces}
+use Rattle.runs.proofs.Stretching.{alike, even_from, stretches_push, stretches_filled, shrink_extend, stretches_apart, stretches_out, runs_length}
 
 or_none : (o r : Option Refusal) → or_else o r ≡ None → (o ≡ None) × (r ≡ None)
 or_none (Some why) r e = let z : ◌≡◌ {A = ℕ} 0 1 = cc in absurd (omega arith)
@@ -129,11 +130,6 @@ module _ {A : Type 0} where
         → runs_needed k (cs ++ (c ∷ [])) ≡ length (extend k rs c.attrs)
     runs_push k rs cs c e =
         runs_length k (cs ++ (c ∷ [])) ∙ ap length (stretches_push k cs c ∙ ap (λ u. extend k u c.attrs) (sym (alike k rs (stretches k cs) e)))
-
-    -- every cell that a run store shows has a width that its text may have
-    pub sound_sized : (s : ClusteredLine A) → AllByRecursion Sized (cells p s)
-    sound_sized s =
-        all_sized (cells p s) (dress_worded (bits_of s.wide) (pieces p.first (vec_items s.text)) 0 (vec_items s.runs))
 
     -- what is held is read back
     pub held_back : (k : Kind A) (t : List ℕ) (last count : ℕ) (ws : List ℕ) (rs : List (Run A)) (cs : List (Shown A))
