@@ -7,7 +7,7 @@
 -- first_point  the code point that a text begins with and how many bytes it takes; none where the text begins with no character
 -- points       the code points of a text; what stands behind the first place where no character begins is left out
 -- good         whether a text is characters up to its end
--- (What ends in -past first leaves out the bytes that still belong to the character before.)
+-- (What ends in _past first leaves out the bytes that still belong to the character before.)
 use Rattle.std.specs.Prelude.{ℕ, zero, suc, pred, ◌+◌, ◌-◌, ◌*◌, Bool, true, false, cond, ◌&&◌, ◌||◌, List, [], ◌∷◌, Some, None, Option, nat_le}
 
 abbrev pub within : ℕ → ℕ → ℕ → Bool
