@@ -12,6 +12,8 @@ use stores::fill::Fill;
 use stores::grid::Grid;
 use stores::store::Store;
 
+// A text with its attributes and numbers is no struct: two functions take them, and the second hands them on to the first.
+
 /// Sets a row to a line at one number, and prunes it at another: 1, 3 or 6.
 pub fn set_line<G: Grid>(
     row: &mut G,

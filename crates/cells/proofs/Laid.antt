@@ -1,9 +1,10 @@
 -- A word from its bytes, and its bytes again.
-use Rattle.std.proofs.Common.{◌≡◌, ℕ, zero, suc, ◌+◌, ◌-◌, ◌*◌, ◌/◌, ◌%◌, ◌^◌, ◌<◌, ◌≤◌, eqb, List, [], ◌∷◌, length, get_or, drop, sym, refl, ap, ◌∙◌, subst, ⊎_elim, le_of_suc-le-suc, not-suc-le-zero, div-one, arith, pow_mono}
+use Rattle.std.proofs.Common.{◌≡◌, ℕ, zero, suc, ◌+◌, ◌-◌, ◌*◌, ◌/◌, ◌%◌, ◌^◌, ◌<◌, ◌≤◌, eqb, List, [], ◌∷◌, length, get_or, drop, take, replicate, ◌++◌, sym, refl, ap, ◌∙◌, ⊎_elim, le_of_suc-le-suc, not-suc-le-zero, div-one, arith, pow_mono}
 use lib.Bits.{bit_and, bit_or, and_mask, or_shifted, or_block, or_zero_r, and_high}
 use lib.Count.{count_leading_zeros}
+use Rattle.std.specs.Int.{w64, byte_at, bytes_low_first, from_le_bytes}
 use Rattle.std.proofs.lemmas.Nat.{pow_pos, pow-add, shr-shr, leading_top}
-use Rattle.std.proofs.lemmas.List.{drop_more, get_or-drop, length-drop}
+use Rattle.std.proofs.lemmas.List.{drop_all, length-drop, length-append}
 use Rattle.std.proofs.lemmas.Bool.{cases_lt, ne_eqb}
 use Rattle.std.proofs.lemmas.Bool.Decides.{nat_tests}
 use Rattle.cells.specs.Words.{value, word_of, up_to, bytes_in, text_of, width_of, same_bytes, spelled, Bits}
@@ -12,10 +13,6 @@ use Rattle.cells.specs.Words.{value, word_of, up_to, bytes_in, text_of, width_of
 abbrev pub Solid : List ℕ → Type 0
 Solid [] = Unit {0}
 Solid (b ∷ bs) = (0 < b) × Solid bs
-
--- a word is what its text and its width make, and its text is not empty
-abbrev pub Layout : ℕ → Type 0
-Layout w = (word_of (text_of w) (width_of w) ≡ w) × (0 < length (text_of w))
 
 abbrev pub Bytes : List ℕ → Type 0
 Bytes bs = (i : ℕ) → get_or bs i 0 < 256
@@ -46,25 +43,29 @@ pub in_bytes : (k n : ℕ) → Bytes (bytes_in k n)
 in_bytes zero n i = omega arith
 in_bytes (suc k) n i = up_to_bytes (n % 256) (bytes_in k (n / 256)) (omega arith) (in_bytes k (n / 256)) i
 
-up_to_first : (b : ℕ) (t : List ℕ) → 0 < length (up_to b t) → get_or (up_to b t) 0 0 ≡ b
-up_to_first zero t h = refl
-up_to_first (suc b) t h = refl
-
-up_to_next : (b : ℕ) (t : List ℕ) (i : ℕ) → suc i < length (up_to b t) → (get_or (up_to b t) (suc i) 0 ≡ get_or t i 0) × (i < length t)
-up_to_next zero t i h = absurd (not-suc-le-zero h)
-up_to_next (suc b) t i h = (refl, le_of_suc-le-suc h)
-
 pow_eight : (i : ℕ) → 2 ^ (8 * suc i) ≡ 256 * 2 ^ (8 * i)
 pow_eight i = let e : 8 * suc i ≡ 8 + 8 * i = omega arith in ap (λ (x : ℕ). 2 ^ x) e ∙ pow-add 2 8 (8 * i)
 
-pub in_at : (k n i : ℕ) → i < length (bytes_in k n) → get_or (bytes_in k n) i 0 ≡ n / 2 ^ (8 * i) % 256
-in_at zero n i h = absurd (not-suc-le-zero h)
-in_at (suc k) n zero h = up_to_first (n % 256) (bytes_in k (n / 256)) h ∙ ap (λ (x : ℕ). x % 256) (sym (div-one n))
-in_at (suc k) n (suc i) h =
-    let e = up_to_next (n % 256) (bytes_in k (n / 256)) i h in
-    let x : 8 + 8 * i ≡ 8 * suc i = omega arith in
-    e.0 ∙ in_at k (n / 256) i e.1
-    ∙ ap (λ (x : ℕ). x % 256) (shr-shr n 8 (8 * i) ∙ ap (λ (x : ℕ). n / 2 ^ x) x)
+pow_bytes : (i : ℕ) → 256 ^ i ≡ 2 ^ (8 * i)
+pow_bytes zero = refl
+pow_bytes (suc i) = let e = pow_bytes i in let d = pow_eight i in omega arith
+
+low_byte : (i n : ℕ) → byte_at i n ≡ n / 2 ^ (8 * i) % 256
+low_byte zero n = ap (λ (x : ℕ). x % 256) (sym (div-one n))
+low_byte (suc i) n = ap (λ (x : ℕ). n / x % 256) (pow_bytes (suc i))
+
+front : (b d : ℕ) (t s : List ℕ) → d ≡ b → take (length t) s ≡ t → take (length (up_to b t)) (d ∷ s) ≡ up_to b t
+front zero d t s e h = refl
+front (suc b) d t s e h = cc
+
+-- a number's bytes, the lowest first, begin with those up to the first zero
+pub low_front : (k i n m : ℕ) → m ≡ n / 2 ^ (8 * i) → take (length (bytes_in k m)) (bytes_low_first i k n) ≡ bytes_in k m
+low_front zero i n m e = refl
+low_front (suc k) i n m e =
+    let x : 8 * i + 8 ≡ 8 * suc i = omega arith in
+    let d : m / 256 ≡ n / 2 ^ (8 * suc i) = ap (λ (y : ℕ). y / 256) e ∙ shr-shr n (8 * i) 8 ∙ ap (λ (y : ℕ). n / 2 ^ y) x in
+    front (m % 256) (byte_at i n) (bytes_in k (m / 256)) (bytes_low_first (suc i) k n)
+    (low_byte i n ∙ ap (λ (y : ℕ). y % 256) (sym e)) (low_front k (suc i) n (m / 256) d)
 
 -- ---- a number's bounds by its bytes
 pub value_below : (bs : List ℕ) → Bytes bs → value bs < 2 ^ (8 * length bs)
@@ -132,7 +133,7 @@ length_by_zeros a (b ∷ bs) e h l s f =
 
 -- ---- the word
 pub laid : (bs : List ℕ) (d : ℕ) → 0 < length bs → length bs ≤ 7 → Solid bs → Bytes bs → d < 2
-    → (w : ℕ) → w ≡ value bs + d * 2 ^ 62 + 2 ^ 63 → (text_of w ≡ bs) × (width_of w ≡ d + 1) × Layout w
+    → (w : ℕ) → w ≡ value bs + d * 2 ^ 62 + 2 ^ 63 → (text_of w ≡ bs) × (width_of w ≡ d + 1) × (word_of (text_of w) (width_of w) ≡ w)
 unfolding text_of
 laid bs d h l s f x w e =
     let m : value bs < 2 ^ (8 * 7) = small bs 7 l f in
@@ -140,25 +141,26 @@ laid bs d h l s f x w e =
     let t : bytes_in 7 w ≡ bs = ap (bytes_in 7) p ∙ bytes_again 7 bs (64 * d + 128) l s f in
     let y : width_of w ≡ d + 1 = omega arith in
     let v : value (bytes_in 7 w) ≡ value bs = ap value t in
-    (t, y, (omega arith, subst (λ (z : List ℕ). 0 < length z) (sym t) h))
+    (t, y, omega arith)
 
-pub masked : (w : ℕ) → Layout w → bit_and w 0x00ff_ffff_ffff_ffff ≡ value (text_of w)
+pub masked : (w : ℕ) → word_of (text_of w) (width_of w) ≡ w → bit_and w 0x00ff_ffff_ffff_ffff ≡ value (text_of w)
 unfolding text_of
-masked w k =
+masked w e =
     let m : value (text_of w) < 2 ^ (8 * 7) = small (text_of w) 7 (in_length 7 w) (in_bytes 7 w) in
-    and_mask w 56 ∙ omega (arith, k.0)
+    and_mask w 56 ∙ omega arith
 
-pub length_of : (w : ℕ) → Layout w → 8 - count_leading_zeros 64 (bit_and w 0x00ff_ffff_ffff_ffff) / 8 ≡ length (text_of w)
+pub length_of : (w : ℕ) → word_of (text_of w) (width_of w) ≡ w → 0 < length (text_of w)
+    → 8 - count_leading_zeros 64 (bit_and w 0x00ff_ffff_ffff_ffff) / 8 ≡ length (text_of w)
 unfolding text_of
-length_of w k = length_by_zeros (bit_and w 0x00ff_ffff_ffff_ffff) (text_of w) (masked w k) k.1 (in_length 7 w) (in_solid 7 w) (in_bytes 7 w)
+length_of w e k = length_by_zeros (bit_and w 0x00ff_ffff_ffff_ffff) (text_of w) (masked w e) k (in_length 7 w) (in_solid 7 w) (in_bytes 7 w)
 
 pub text_length : (w : ℕ) → length (text_of w) ≤ 7
 unfolding text_of
 text_length w = in_length 7 w
 
-pub byte_of : (w i : ℕ) → i < length (text_of w) → bit_and (w / 2 ^ (8 * i)) 255 ≡ get_or (text_of w) i 0
+pub text_front : (w : ℕ) → take (length (text_of w)) (bytes_low_first 0 7 w) ≡ text_of w
 unfolding text_of
-byte_of w i h = and_mask (w / 2 ^ (8 * i)) 8 ∙ sym (in_at 7 w i h)
+text_front w = low_front 7 0 w w (sym (div-one w))
 
 pub topped : (v : ℕ) → v < 2 ^ 56 → bit_or 0x8000_0000_0000_0000 v ≡ v + 0 * 2 ^ 62 + 2 ^ 63
 topped v h = let e = or_shifted 1 63 v (omega arith) in omega arith
@@ -173,18 +175,43 @@ widened v h =
 pub wide_bit : (w : ℕ) → bit_and w 0x4000_0000_0000_0000 ≡ (w / 2 ^ 62 % 2) * 2 ^ 62
 wide_bit w = and_high w 1 62
 
--- one more byte in front
-pub packed_more : (bs : List ℕ) (i w : ℕ) → 0 < i → i ≤ length bs → length bs ≤ 7 → Bytes bs → w ≡ value (drop i bs)
-    → bit_or ((w * 256) % 2 ^ 64) (get_or bs (i - 1) 0) ≡ value (drop (i - 1) bs)
-packed_more bs i w h l k f e =
-    let n : i - 1 + 1 ≡ i = omega arith in
-    let d = drop_more bs (i - 1) 0 (omega arith) in
-    let a : value (drop (i - 1) bs) ≡ get_or bs (i - 1) 0 + 256 * value (drop i bs) =
-    ap value d ∙ ap (λ (x : ℕ). get_or bs (i - 1) 0 + 256 * value (drop x bs)) n in
-    let g : Bytes (drop i bs) = λ j. subst (λ (x : ℕ). x < 256) (sym (get_or-drop i bs j 0)) (f (i + j)) in
-    let m : value (drop i bs) < 2 ^ (8 * 6) = small (drop i bs) 6 (simp length-drop (omega arith)) g in
-    let z : (w * 256) % 2 ^ 64 ≡ w * 2 ^ 8 = omega arith in
-    ap (λ (x : ℕ). bit_or x (get_or bs (i - 1) 0)) z ∙ or_shifted w 8 (get_or bs (i - 1) 0) (f (i - 1)) ∙ omega arith
+-- ---- a text read as a number of eight bytes
+value_from : (bs : List ℕ) (i : ℕ) → value (drop i bs) ≡ get_or bs i 0 + 256 * value (drop (suc i) bs)
+value_from [] zero = refl
+value_from [] (suc i) = refl
+value_from (b ∷ bs) zero = refl
+value_from (b ∷ bs) (suc i) = value_from bs i
+
+value_past : (bs : List ℕ) (k : ℕ) → length bs ≤ k → value (drop k bs) ≡ 0
+value_past bs k h = ap value (drop_all k bs h)
+
+read_value : (bs : List ℕ) → length bs ≤ 8 → from_le_bytes w64 bs ≡ value bs
+read_value bs h =
+    let a = value_from bs 0 in
+    let b = value_from bs 1 in
+    let c = value_from bs 2 in
+    let d = value_from bs 3 in
+    let e = value_from bs 4 in
+    let f = value_from bs 5 in
+    let g = value_from bs 6 in
+    let k = value_from bs 7 in
+    let z = value_past bs 8 h in
+    omega arith
+
+zeros : (n k : ℕ) → value (drop n (replicate k 0)) ≡ 0
+zeros zero zero = refl
+zeros zero (suc k) = let e = zeros zero k in omega arith
+zeros (suc n) zero = refl
+zeros (suc n) (suc k) = zeros n k
+
+value_front : (t z : List ℕ) → value z ≡ 0 → value (t ++ z) ≡ value t
+value_front [] z e = e
+value_front (b ∷ t) z e = ap (λ (x : ℕ). b + 256 * x) (value_front t z e)
+
+pub number_of : (t s : List ℕ) → length t ≤ 8 → s ≡ t ++ drop (length t) (replicate 8 0) → from_le_bytes w64 s ≡ value t
+number_of t s h e =
+    let l : length s ≤ 8 = simp (e, length-append, length-drop) (omega arith) in
+    read_value s l ∙ ap value e ∙ value_front t _ (zeros (length t) 8)
 
 -- ---- the bits
 pub digit : (k i : ℕ) (bs : List ℕ) (h : ℕ) → i < k → Bytes bs → (value bs + up k h) / 2 ^ (8 * i) % 256 ≡ get_or bs i 0
@@ -234,7 +261,7 @@ same_value (b ∷ s) (d ∷ t) p q f g =
     let y : d < 256 = g 0 in
     grind (arith, nat_tests)
 
-pub same_texts : (w v : ℕ) → Layout w → Layout v
+pub same_texts : (w v : ℕ) → word_of (text_of w) (width_of w) ≡ w → word_of (text_of v) (width_of v) ≡ v
     → eqb (bit_and w 0x00ff_ffff_ffff_ffff) (bit_and v 0x00ff_ffff_ffff_ffff) ≡ same_bytes (text_of w) (text_of v)
 unfolding text_of
 same_texts w v k l =

@@ -72,11 +72,11 @@ packs t width v w u e f d way =
     (λ (x : (width ≡ 2) × (w ≡ bit_or (bit_or 0x8000_0000_0000_0000 v) 0x4000_0000_0000_0000)).
     let y = widened v m in
     let r = laid t 1 h l s f (omega arith) w (omega (arith, x.1)) in
-    with_texts t width w u n r.0 (r.1 ∙ omega (arith, x.0)) r.2.0)
+    with_texts t width w u n r.0 (r.1 ∙ omega (arith, x.0)) r.2)
     (λ (x : (width ≡ 2 → ⊥) × (w ≡ bit_or 0x8000_0000_0000_0000 v)).
     let y = topped v m in
     let r = laid t 0 h l s f (omega arith) w (omega (arith, x.1)) in
     let one : width ≡ 1 =
     ⊎_elim (λ z. eqb-true width 1 z) (λ z. absurd (x.0 (eqb-true width 2 z))) (one_or_two (eqb width 1) (eqb width 2) (is_space t) n) in
-    with_texts t width w u n r.0 (r.1 ∙ omega arith) r.2.0)
+    with_texts t width w u n r.0 (r.1 ∙ omega arith) r.2)
     way

@@ -4,16 +4,12 @@ ghost use Rattle.cells.specs.Kinds.{Kind};
 
 use crate::semantic::SemanticType;
 
-pub trait Attributes: Copy {
+pub trait Attributes: Copy + Eq {
     /// What its functions answer, and the laws that this keeps.
     ghost kind: { Kind Self };
 
     fn blank() -> Self
         ensures { result ≡ kind.blank };
-
-    /// Whether two values are identical.
-    fn same(&self, other: &Self) -> bool
-        ensures { result ≡ kind.same self.now other.now };
 
     fn wrapped(&self) -> bool
         ensures { result ≡ kind.wrapped self.now };
@@ -23,4 +19,7 @@ pub trait Attributes: Copy {
 
     fn semantic_type(&self) -> SemanticType
         ensures { result ≡ kind.semantic self.now };
+
+    /// Whether two values are identical is what `==` answers.
+    ghost equal: { (a b : Self) → Self.eq a b ≡ kind.same a b };
 }

@@ -1,7 +1,7 @@
 //! A cell: a text word and attributes of any kind.
 use crate::teenystring::TeenyString;
 
-#[derive(Clone, Copy)]
+#[derive(Clone, Copy, PartialEq, Eq)]
 pub struct Cell<A> {
     pub text: TeenyString,
     pub attrs: A,

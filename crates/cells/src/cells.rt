@@ -29,15 +29,17 @@ impl<A: Attributes> Cell<A> {
     pub fn is_plain_blank(&self) -> bool
         ensures { result ≡ is_plain A.Attributes.kind (meaning self.now) }
     {
-        self.text.same_text(&TeenyString::space()) && self.attrs.same(&A::blank())
+        self.text.same_text(&TeenyString::space()) && self.attrs == A::blank()
     }
 
+    // Not `==`, which counts the width too.
     /// Whether text and attributes agree; the width does not count.
+    #[tactic(auto, using(crate::proofs::Agreeing::text_exact))]
     pub fn equal(&self, other: &Cell<A>) -> bool
         ensures value { result ≡ equal A.Attributes.kind (meaning self.now) (meaning other.now) }
         ensures exact { Decides result (Equal (meaning self.now) (meaning other.now)) }
     {
-        self.text.same_text(&other.text) && self.attrs.same(&other.attrs)
+        self.text.same_text(&other.text) && self.attrs == other.attrs
     }
 
     /// Whether text, width and attributes agree.
@@ -45,6 +47,6 @@ impl<A: Attributes> Cell<A> {
         ensures value { result ≡ alike A.Attributes.kind (meaning self.now) (meaning other.now) }
         ensures exact { Decides result (meaning self.now ≡ meaning other.now) }
     {
-        self.text.width() == other.text.width() && self.equal(other)
+        *self == *other
     }
 }

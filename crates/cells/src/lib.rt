@@ -8,5 +8,6 @@ pub mod cleaning;
 mod numbers;
 pub mod refusal;
 pub mod semantic;
+mod sentences;
 pub mod teenystring;
 mod types;

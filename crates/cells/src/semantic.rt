@@ -1,7 +1,7 @@
 //! The semantic type of a cell: what a program wrote, what a user typed, or a prompt.
-#[derive(Clone, Copy)]
+#[derive(Clone, Copy, PartialEq, Eq, Debug)]
 pub enum SemanticType {
-    Output,
-    Input,
-    Prompt,
+    Output = 0,
+    Input = 1,
+    Prompt = 2,
 }

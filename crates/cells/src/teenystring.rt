@@ -2,8 +2,8 @@
 ghost use Rattle.std.specs.Prelude.{◌≡◌, ◌≤◌, false, length, None};
 ghost use Rattle.std.specs.List.{slice_get};
 ghost use Rattle.cells.specs.Cleaning.{unclean, clean, space};
-ghost use Rattle.cells.specs.Refusals.{first_of, mapped};
-ghost use Rattle.cells.specs.Words.{value, word_of, text_of, width_of, has_zero, bad_width, word_refusals, made, spelled, same_bytes, Bits};
+ghost use Rattle.cells.specs.Refusals.{first_of, verdict, mapped};
+ghost use Rattle.cells.specs.Words.{value, word_of, text_of, width_of, bad_width, word_refusals, made, spelled, same_bytes, Bits};
 
 use crate::cleaning::cleaned;
 use crate::refusal::Refusal;
@@ -14,24 +14,12 @@ const WIDE: u64 = 0x4000_0000_0000_0000;
 
 const TEXT: u64 = 0x00ff_ffff_ffff_ffff;
 
-#[derive(Clone, Copy)]
+#[derive(Clone, Copy, PartialEq, Eq)]
 pub struct TeenyString {
     word: u64,
     ghost laid: { word_of (text_of word) (width_of word) ≡ word },
     ghost clean: { unclean (text_of word) ≡ false },
     ghost narrow: { bad_width (text_of word) (width_of word) ≡ false },
-}
-
-/// Whether a byte of the text is zero.
-fn has_zero(text: &[u8]) -> bool
-    ensures { result ≡ has_zero text.now }
-{
-    for b in text {
-        if *b == 0 {
-            return true;
-        }
-    }
-    false
 }
 
 fn is_bad_width(text: &[u8], width: usize) -> bool
@@ -45,20 +33,20 @@ fn is_bad_width(text: &[u8], width: usize) -> bool
     }
 }
 
-/// What refuses a clean text and its width.
-fn word_refusal(text: &[u8], width: usize) -> Option<Refusal>
-    ensures { result ≡ first_of (word_refusals text.now width) }
+/// What refuses a clean text and its width, if anything does.
+fn check_word(text: &[u8], width: usize) -> Result<(), Refusal>
+    ensures { result ≡ verdict (first_of (word_refusals text.now width)) tt }
 {
-    if has_zero(text) {
-        return Some(Refusal::NotOnePiece);
+    if text.contains(&0) {
+        return Err(Refusal::NotOnePiece);
     }
     if text.len() > 7 {
-        return Some(Refusal::TooLong);
+        return Err(Refusal::TooLong);
     }
     if is_bad_width(text, width) {
-        return Some(Refusal::BadWidth);
+        return Err(Refusal::BadWidth);
     }
-    None
+    Ok(())
 }
 
 /// The bytes as a number, the first lowest.
@@ -66,11 +54,9 @@ fn packed(text: &[u8]) -> u64
     requires { length text.now ≤ 7 }
     ensures { result ≡ value text.now }
 {
-    let mut word: u64 = 0;
-    for i in (0..text.len()).rev() {
-        word = (word << 8) | text[i] as u64;
-    }
-    word
+    let mut bytes = [0; 8];
+    bytes[..text.len()].copy_from_slice(text);
+    u64::from_le_bytes(bytes)
 }
 
 /// The word of a clean text that nothing refuses.
@@ -86,17 +72,17 @@ fn pack(text: &[u8], width: usize) -> TeenyString
 }
 
 impl TeenyString {
+    // The width is a number: callers may give any, and 4 is for the wrong ones.
     /// The word of a text, cleaned first, and a width.
     pub fn new(text: &[u8], width: usize) -> Result<TeenyString, Refusal>
         ensures { mapped (λ s. spelled s.word) result ≡ made (clean text.now) width }
     {
         let text = cleaned(text);
-        if let Some(why) = word_refusal(text, width) {
-            return Err(why);
-        }
+        check_word(text, width)?;
         Ok(pack(text, width))
     }
 
+    #[tactic(auto, unfolding(crate::specs::Words::text_of))]
     pub fn space() -> TeenyString
         ensures { (spelled result.word ≡ record { text = space; width = 1 }) × (result.word ≡ 0x8000000000000020) }
     {
@@ -115,6 +101,7 @@ impl TeenyString {
     }
 
     /// How many bytes the text has.
+    #[tactic(auto, using(crate::proofs::Laid::length_of, crate::proofs::Refused::nonempty))]
     pub fn len(&self) -> usize
         ensures { result ≡ length (text_of self.now.word) }
     {
@@ -125,12 +112,19 @@ impl TeenyString {
     pub fn byte(&self, i: usize) -> Option<u8>
         ensures { result ≡ slice_get (text_of self.now.word) i }
     {
-        if i >= self.len() {
-            return None;
-        }
-        Some(((self.word >> (8 * i)) & 0xff) as u8)
+        self.read(&mut [0; 7]).get(i).copied()
     }
 
+    /// The text, read into a buffer with room for any.
+    #[tactic(auto, using(crate::proofs::Laid::text_length))]
+    pub fn read<'b>(&self, buffer: &'b mut [u8; 7]) -> &'b [u8]
+        ensures { result.now ≡ text_of self.now.word }
+    {
+        buffer.copy_from_slice(&self.word.to_le_bytes()[..7]);
+        &buffer[..self.len()]
+    }
+
+    #[tactic(auto, using(crate::proofs::Laid::wide_bit))]
     pub fn width(&self) -> usize
         ensures { result ≡ width_of self.now.word }
     {
@@ -138,6 +132,7 @@ impl TeenyString {
     }
 
     /// Whether the texts agree; the width does not count.
+    #[tactic(auto, using(crate::proofs::Laid::same_texts))]
     pub fn same_text(&self, other: &TeenyString) -> bool
         ensures { result ≡ same_bytes (text_of self.now.word) (text_of other.now.word) }
     {

@@ -9,17 +9,17 @@ impl SemanticType {
     pub fn number(&self) -> u8
         ensures { result ≡ type_number self.now }
     {
-        match self {
-            SemanticType::Output => 0,
-            SemanticType::Input => 1,
-            SemanticType::Prompt => 2,
-        }
+        *self as u8
     }
+}
 
-    /// The type of a number; 12 where there is none.
-    pub fn from_number(number: u8) -> Result<SemanticType, Refusal>
-        ensures { result ≡ typed number }
-    {
+/// The type of a number; 12 where there is none.
+impl TryFrom<u8> for SemanticType {
+    type Error = Refusal;
+
+    ghost try_from_gives = { λ number made. made ≡ typed number };
+
+    fn try_from(number: u8) -> Result<SemanticType, Refusal> {
         match number {
             0 => Ok(SemanticType::Output),
             1 => Ok(SemanticType::Input),

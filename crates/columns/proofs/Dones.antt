@@ -1,14 +1,13 @@
 -- What a call did, from its refusals and its columns.
-use Rattle.std.proofs.Common.{◌≡◌, ℕ, zero, suc, ◌+◌, ◌-◌, ◌<◌, ◌≤◌, max, Bool, true, false, cond, not, eqb, ltb, List, [], ◌∷◌, ◌++◌, length, take, drop, replicate, Some, None, Ok, Err, Result, sym, refl, ap, ◌∙◌, subst, inl, inr, arith}
+use Rattle.std.proofs.Common.{◌≡◌, ℕ, zero, suc, ◌+◌, ◌-◌, ◌<◌, ◌≤◌, max, Bool, true, false, cond, not, eqb, ltb, List, [], ◌∷◌, ◌++◌, length, take, drop, replicate, Some, None, Ok, Err, Option, Result, sym, refl, ap, ◌∙◌, subst, inl, inr, arith}
 use Rattle.std.specs.List.{AllByRecursion}
-use Rattle.std.proofs.lemmas.List.{length-append, length-map, length-replicate, nil_from_length}
-use Rattle.std.proofs.lemmas.Bool.{ltb-false, lt-ltb, le-ltb, ne_eqb, eqb-false, cases_Bool, not-false}
-use Rattle.cells.specs.Cells.{Shown, meaning, plain_blank}
+use Rattle.std.proofs.lemmas.List.{length-append, length-replicate}
+use Rattle.std.proofs.lemmas.Bool.{ltb-false, lt-ltb, le-ltb, eqb-false, cases_Bool}
+use Rattle.cells.specs.Cells.{Shown, plain_blank}
 use Rattle.cells.specs.Kinds.{Kind}
 use Rattle.cells.specs.Refusals.{first_of, verdict}
-use Rattle.cells.specs.declared.cell.Cell.{Cell}
 use Rattle.cells.specs.declared.refusal.Refusal.{Refusal}
-use Rattle.cells.specs.declared.refusal.Refusal.TheVariants.{NotGood, TooLong, MarginZero, PastCapacity, PartsWide, TooSmall, Full}
+use Rattle.cells.specs.declared.refusal.Refusal.TheVariants.{NotGood, TooLong, PastCapacity, PartsWide, TooSmall, Full}
 use Rattle.splitters.specs.Splits.{Splits}
 use Rattle.rows.specs.Lists.{span}
 use Rattle.rows.specs.Spread.{spread}
@@ -21,7 +20,8 @@ use Rattle.rows.specs.Columns.{shown, Whole, inside}
 use Rattle.rows.specs.Rows.{Room, Panel, Edit, Done, state, stays, unless, passes}
 use Rattle.rows.specs.Givens.{cell_refusals}
 use Rattle.rows.specs.Edits.{becomes, split_refusals, split_first, split_second, made_room, parts_wide, some_cell, from_text, text_refusals, set_refusals, insert_refusals}
-use Rattle.columns.specs.Cols.{columns}
+use Rattle.columns.specs.Becoming.{held, Becomes}
+use Rattle.columns.specs.declared.cols.Columns.{Columns}
 use Rattle.rows.proofs.Refusing.{Clear, none_fits, passed}
 
 -- refusals in their order: passed over, or given
@@ -58,34 +58,6 @@ insertable k p room x c m xs e =
       parts = n.1.1.1.1.0;
     }
 
-pub insert_cell_refused : {A : Type 0} (k : Kind A) (p : Splits) (room : Room) (x : ℕ) (c : Shown A) (m : ℕ) (xs : List (Shown A)) (why : Refusal)
-    → first_of (cell_refusals p c) ≡ Some why → first_of (insert_refusals k p room x c m xs) ≡ Some why
-insert_cell_refused k p room x c m xs why e =
-    kept (cell_refusals p c)
-    ((eqb m 0, MarginZero) ∷ (passes room (length (made_room k x m xs) + c.width), PastCapacity) ∷ (parts_wide k x m xs, PartsWide) ∷ []) why e
-
-module _ {A : Type 0} (k : Kind A) (p : Splits) (room : Room) (x : ℕ) (c : Shown A) (m : ℕ) (xs : List (Shown A)) (h : first_of (cell_refusals p c) ≡ None) (some : 0 < m) where
-  last_two : List (Bool × Refusal)
-  last_two = (passes room (length (made_room k x m xs) + c.width), PastCapacity) ∷ (parts_wide k x m xs, PartsWide) ∷ []
-
-  to_past : first_of (insert_refusals k p room x c m xs) ≡ first_of last_two
-  unfolding last_two
-  to_past =
-      skip (cell_refusals p c) ((eqb m 0, MarginZero) ∷ last_two) h ∙ skip_one (eqb m 0) MarginZero last_two (ne_eqb m 0 (λ e. omega arith))
-
-  pub insert_past : room.capacity < length (made_room k x m xs) + c.width → first_of (insert_refusals k p room x c m xs) ≡ Some PastCapacity
-  unfolding last_two
-  insert_past l =
-      to_past ∙ hit (passes room (length (made_room k x m xs) + c.width)) PastCapacity ((parts_wide k x m xs, PartsWide) ∷ [])
-      (lt-ltb room.capacity (length (made_room k x m xs) + c.width) l)
-
-  pub insert_last : length (made_room k x m xs) + c.width ≤ room.capacity
-      → first_of (insert_refusals k p room x c m xs) ≡ cond (parts_wide k x m xs) (Some PartsWide) None
-  unfolding last_two
-  insert_last l =
-      to_past ∙ skip_one (passes room (length (made_room k x m xs) + c.width)) PastCapacity ((parts_wide k x m xs, PartsWide) ∷ [])
-      (le-ltb room.capacity (length (made_room k x m xs) + c.width) l)
-
 -- a grid takes what fits
 pub room_left : {A : Type 0} (room : Room) (cells : List (Shown A)) (c : Shown A) → span cells + c.width ≤ room.capacity → grid_rule room cells c ≡ None
 room_left room cells c l = ap (λ b. first_of ((b, Full) ∷ [])) (le-ltb room.capacity (span cells + c.width) l)
@@ -93,8 +65,14 @@ room_left room cells c l = ap (λ b. first_of ((b, Full) ∷ [])) (le-ltb room.c
 pub room_none : {A : Type 0} (room : Room) (cells : List (Shown A)) (c : Shown A) → room.capacity < span cells + c.width → grid_rule room cells c ≡ Some Full
 room_none room cells c l = ap (λ b. first_of ((b, Full) ∷ [])) (lt-ltb room.capacity (span cells + c.width) l)
 
-pub not_not : (b : Bool) → not b ≡ false → b ≡ true
-not_not b e = not-false b e
+-- what an answer says of the refusals
+pub accepted : (o : Option Refusal) → ◌≡◌ {A = Result (Unit {0}) Refusal} (Ok tt) (verdict o tt) → o ≡ None
+accepted None e = refl
+accepted (Some why) e = let z : ◌≡◌ {A = ℕ} 0 1 = cc in absurd (omega arith)
+
+pub given_up : (o : Option Refusal) (why : Refusal) → ◌≡◌ {A = Result (Unit {0}) Refusal} (Err why) (verdict o tt) → o ≡ Some why
+given_up None why e = let z : ◌≡◌ {A = ℕ} 0 1 = cc in absurd (omega arith)
+given_up (Some w) why e = let h : why ≡ w = cc in rw h
 
 -- a call that was refused, and one that was carried out
 pub refused : {A : Type 0} (e : Edit A) (s : Panel A) (why : Refusal) → e.refusal ≡ Some why → Done e s (Err why) s
@@ -113,55 +91,51 @@ carried e s t h r n z = record {
   room = z;
 }
 
--- what a column store means, from its cells, its number and its limit
-abbrev pub panel : {A : Type 0} → List (Cell A) → ℕ → ℕ → Panel A
-panel xs number limit = record { cells = shown (columns xs); number = number; sizes = limit ∷ [] }
+-- what a column store means, from its columns and its number
+abbrev pub panel : {A : Type 0} → Columns A → ℕ → Panel A
+panel s n = record { cells = shown (held s); number = n; sizes = s.limit ∷ [] }
+
+pub same_sizes : {A : Type 0} {s t : Columns A} {xs : List (Shown A)} → Becomes s t xs → t.limit ∷ [] ≡ s.limit ∷ []
+same_sizes b = ap (λ l. l ∷ []) b.limit
+
+-- what stays the same, refused or not
+pub unless_same : {X : Type 0} (o : Option Refusal) (x : X) → x ≡ unless o x x
+unless_same None x = refl
+unless_same (Some why) x = refl
 
 -- an edit that is said of the columns of the shown cells, on whole columns
-module _ {A : Type 0} (F : List (Shown A) → Edit A) (xs : List (Cell A)) (n limit : ℕ) (w : Whole (columns xs)) where
-  pub on_columns : {r : Result (Unit {0}) Refusal} {t : Panel A} → Done (F (columns xs)) (panel xs n limit) r t → Done (F (spread (shown (columns xs)))) (panel xs n limit) r t
-  on_columns {r} {t} d = subst (λ v. Done (F v) (panel xs n limit) r t) (sym w) d
+module _ {A : Type 0} (F : List (Shown A) → Edit A) (s : Columns A) (n : ℕ) (w : Whole (held s)) where
+  on_columns : {r : Result (Unit {0}) Refusal} {t : Panel A} → Done (F (held s)) (panel s n) r t → Done (F (spread (shown (held s)))) (panel s n) r t
+  on_columns {r} {t} d = subst (λ v. Done (F v) (panel s n) r t) (sym w) d
 
-  pub refused_columns : (why : Refusal) → (F (columns xs)).refusal ≡ Some why → Done (F (spread (shown (columns xs)))) (panel xs n limit) (Err why) (panel xs n limit)
-  refused_columns why h = on_columns (refused (F (columns xs)) (panel xs n limit) why h)
+  pub refused_columns : (why : Refusal) → (F (held s)).refusal ≡ Some why → Done (F (spread (shown (held s)))) (panel s n) (Err why) (panel s n)
+  refused_columns why h = on_columns (refused (F (held s)) (panel s n) why h)
 
-  pub carried_columns : (ys : List (Cell A)) (m : ℕ) → (F (columns xs)).refusal ≡ None → shown (columns ys) ≡ (F (columns xs)).cells → m ≡ (F (columns xs)).number
-      → Done (F (spread (shown (columns xs)))) (panel xs n limit) (Ok tt) (panel ys m limit)
-  carried_columns ys m h e q = on_columns (carried (F (columns xs)) (panel xs n limit) (panel ys m limit) h e q refl)
+  pub carried_columns : (t : Columns A) (cols : List (Shown A)) (m : ℕ) → (F (held s)).refusal ≡ None → Becomes s t cols → shown cols ≡ (F (held s)).cells → m ≡ (F (held s)).number
+      → Done (F (spread (shown (held s)))) (panel s n) (Ok tt) (panel t m)
+  carried_columns t cols m h b e q = on_columns (carried (F (held s)) (panel s n) (panel t m) h (ap shown b.row ∙ e) q (same_sizes b))
 
 -- an edit that goes by a test
 pub by_test : {A : Type 0} (b t : Bool) (e f : Edit A) {p q : Panel A} {r : Result (Unit {0}) Refusal} → b ≡ t → Done (cond t e f) p r q → Done (cond b e f) p r q
 by_test b t e f {p} {q} {r} h d = subst (λ v. Done (cond v e f) p r q) (sym h) d
 
 -- an edit at a column, which does nothing at or past the end
-module _ {A : Type 0} (G : List (Shown A) → List (Shown A)) (x seqno : ℕ) (xs : List (Cell A)) (n limit : ℕ) (w : Whole (columns xs)) where
+module _ {A : Type 0} (G : List (Shown A) → List (Shown A)) (x seqno : ℕ) (s : Columns A) (n : ℕ) (w : Whole (held s)) where
   abbrev at_column : List (Shown A) → Edit A
-  at_column v = cond (ltb x (length v)) (becomes [] (G v) seqno (state (panel xs n limit))) (stays (state (panel xs n limit)))
+  at_column v = cond (ltb x (length v)) (becomes [] (G v) seqno (state (panel s n))) (stays (state (panel s n)))
 
-  pub past_end : length xs ≤ x → Done (at_column (spread (shown (columns xs)))) (panel xs n limit) (Ok tt) (panel xs n limit)
-  past_end l =
-      let s = state (panel xs n limit) in
-      let c = length-map xs meaning in
-      on_columns at_column xs n limit w
-      (by_test (ltb x (length (columns xs))) false (becomes [] (G (columns xs)) seqno s) (stays s) (le-ltb x (length (columns xs)) (omega arith))
-      (carried (stays s) (panel xs n limit) (panel xs n limit) refl refl refl refl))
-
-  pub within_end : (ys : List (Cell A)) (m : ℕ) → x < length xs → columns ys ≡ G (columns xs) → m ≡ max n seqno
-      → Done (at_column (spread (shown (columns xs)))) (panel xs n limit) (Ok tt) (panel ys m limit)
-  within_end ys m l e q =
-      let s = state (panel xs n limit) in
-      let c = length-map xs meaning in
-      on_columns at_column xs n limit w
-      (by_test (ltb x (length (columns xs))) true (becomes [] (G (columns xs)) seqno s) (stays s) (lt-ltb x (length (columns xs)) (omega arith))
-      (carried (becomes [] (G (columns xs)) seqno s) (panel xs n limit) (panel ys m limit) refl (ap shown e) q refl))
+  pub within_end : (t : Columns A) (m : ℕ) → x < length (held s) → Becomes s t (G (held s)) → m ≡ max n seqno
+      → Done (at_column (spread (shown (held s)))) (panel s n) (Ok tt) (panel t m)
+  within_end t m l b q =
+      let p = state (panel s n) in
+      on_columns at_column s n w
+      (by_test (ltb x (length (held s))) true (becomes [] (G (held s)) seqno p) (stays p) (lt-ltb x (length (held s)) l)
+      (carried (becomes [] (G (held s)) seqno p) (panel s n) (panel t m) refl (ap shown b.row) q (same_sizes b)))
 
 pub set_clear : {A : Type 0} (p : Splits) (room : Room) (x : ℕ) (c : Shown A) → first_of (cell_refusals p c) ≡ None → x + c.width ≤ room.capacity → first_of (set_refusals p room x c) ≡ None
 set_clear p room x c h l =
     skip (cell_refusals p c) ((passes room (x + c.width), PastCapacity) ∷ []) h
     ∙ skip_one (passes room (x + c.width)) PastCapacity [] (le-ltb room.capacity (x + c.width) l)
-
-pub set_cell_refused : {A : Type 0} (p : Splits) (room : Room) (x : ℕ) (c : Shown A) (why : Refusal) → first_of (cell_refusals p c) ≡ Some why → first_of (set_refusals p room x c) ≡ Some why
-set_cell_refused p room x c why e = kept (cell_refusals p c) ((passes room (x + c.width), PastCapacity) ∷ []) why e
 
 -- pruning drops as many cells as columns
 span_blanks : {A : Type 0} (k : Kind A) (n : ℕ) → span (replicate n (plain_blank k)) ≡ n
@@ -185,8 +159,9 @@ some_same k [] [] c e = let z : ◌≡◌ {A = ℕ} 0 1 = cc in absurd (omega ar
 some_same k [] (d ∷ ds) c e = let z : ◌≡◌ {A = ℕ} 0 1 = cc in absurd (omega arith)
 some_same k (x ∷ cs) ds c e = refl
 
-pub no_cells : {A : Type 0} (xs : List (Cell A)) → length xs ≡ 0 → shown (columns xs) ≡ []
-no_cells xs e = ap (λ v. shown (columns v)) (nil_from_length xs e)
+pub some_fits : {A : Type 0} (k : Kind A) (cs : List (Shown A)) (n : ℕ) → span cs ≤ n → 0 < n → span (some_cell k cs) ≤ n
+some_fits k [] n l p = omega arith
+some_fits k (c ∷ cs) n l p = l
 
 -- the empty text is always accepted, and leaves no cell
 empty_text : {A : Type 0} (p : Splits) (room : Room) (a : A) → first_of (text_refusals p room [] a) ≡ None
@@ -202,40 +177,22 @@ module _ {A : Type 0} (p : Splits) (room : Room) (a : A) (n : ℕ) {s t : Panel 
   emptied_number = d.change ∙ ap (λ o. unless o s.number n) (empty_text p room a)
 
 -- a row split
-module _ {A : Type 0} (xs : List (Cell A)) (n limit : ℕ) (w : Whole (columns xs)) (room : Room) (idx seqno : ℕ) where
+module _ {A : Type 0} (s : Columns A) (n : ℕ) (w : Whole (held s)) (room : Room) (idx seqno : ℕ) where
   abbrev first_part : List (Shown A) → Edit A
   first_part v = record { refusal = first_of (split_refusals room idx v); cells = shown (take idx v); number = n }
 
   abbrev second_part : List (Shown A) → Edit A
   second_part v = record { refusal = first_of (split_refusals room idx v); cells = shown (drop idx v); number = seqno }
 
-  pub first_refused : (why : Refusal) → first_of (split_refusals room idx (columns xs)) ≡ Some why
-      → Done (split_first room idx (state (panel xs n limit))) (panel xs n limit) (Err why) (panel xs n limit)
-  first_refused why h = refused_columns first_part xs n limit w why h
+  pub first_carried : (t : Columns A) → first_of (split_refusals room idx (held s)) ≡ None → Becomes s t (take idx (held s))
+      → Done (split_first room idx (state (panel s n))) (panel s n) (Ok tt) (panel t n)
+  first_carried t h b = carried_columns first_part s n w t (take idx (held s)) n h b refl refl
 
-  pub second_refused : (q : Panel A) (why : Refusal) → first_of (split_refusals room idx (columns xs)) ≡ Some why
-      → Done (split_second room idx seqno (state (panel xs n limit))) q (Err why) q
-  second_refused q why h = subst (λ v. Done (second_part v) q (Err why) q) (sym w) (refused (second_part (columns xs)) q why h)
+  pub second_carried : (q t : Panel A) → first_of (split_refusals room idx (held s)) ≡ None → t.cells ≡ shown (drop idx (held s)) → t.number ≡ seqno → t.sizes ≡ q.sizes
+      → Done (split_second room idx seqno (state (panel s n))) q (Ok tt) t
+  second_carried q t h e m z = subst (λ v. Done (second_part v) q (Ok tt) t) (sym w) (carried (second_part (held s)) q t h e m z)
 
-  pub first_carried : (ys : List (Cell A)) → first_of (split_refusals room idx (columns xs)) ≡ None → columns ys ≡ take idx (columns xs)
-      → Done (split_first room idx (state (panel xs n limit))) (panel xs n limit) (Ok tt) (panel ys n limit)
-  first_carried ys h e = carried_columns first_part xs n limit w ys n h (ap shown e) refl
-
-  pub second_carried : (q t : Panel A) → first_of (split_refusals room idx (columns xs)) ≡ None → t.cells ≡ shown (drop idx (columns xs)) → t.number ≡ seqno → t.sizes ≡ q.sizes
-      → Done (split_second room idx seqno (state (panel xs n limit))) q (Ok tt) t
-  second_carried q t h e m z = subst (λ v. Done (second_part v) q (Ok tt) t) (sym w) (carried (second_part (columns xs)) q t h e m z)
-
-  pub split_parts : inside idx (columns xs) ≡ true → first_of (split_refusals room idx (columns xs)) ≡ Some PartsWide
-  split_parts e = hit (inside idx (columns xs)) PartsWide ((passes room (length (columns xs) - idx), TooSmall) ∷ []) e
-
-  pub split_small : inside idx (columns xs) ≡ false → room.capacity < length xs - idx → first_of (split_refusals room idx (columns xs)) ≡ Some TooSmall
-  split_small e l =
-      let c = length-map xs meaning in
-      skip_one (inside idx (columns xs)) PartsWide ((passes room (length (columns xs) - idx), TooSmall) ∷ []) e
-      ∙ hit (passes room (length (columns xs) - idx)) TooSmall [] (lt-ltb room.capacity (length (columns xs) - idx) (omega arith))
-
-  pub split_clear : inside idx (columns xs) ≡ false → length xs - idx ≤ room.capacity → first_of (split_refusals room idx (columns xs)) ≡ None
+  pub split_clear : inside idx (held s) ≡ false → length (held s) - idx ≤ room.capacity → first_of (split_refusals room idx (held s)) ≡ None
   split_clear e l =
-      let c = length-map xs meaning in
-      skip_one (inside idx (columns xs)) PartsWide ((passes room (length (columns xs) - idx), TooSmall) ∷ []) e
-      ∙ skip_one (passes room (length (columns xs) - idx)) TooSmall [] (le-ltb room.capacity (length (columns xs) - idx) (omega arith))
+      skip_one (inside idx (held s)) PartsWide ((passes room (length (held s) - idx), TooSmall) ∷ []) e
+      ∙ skip_one (passes room (length (held s) - idx)) TooSmall [] (le-ltb room.capacity (length (held s) - idx) l)

@@ -1,20 +1,19 @@
 -- Columns read one cell after the other, and the last cell.
-use Rattle.std.proofs.Common.{◌≡◌, ℕ, zero, suc, ◌+◌, ◌<◌, ◌≤◌, true, false, List, [], ◌∷◌, ◌++◌, length, get_or, take, drop, Some, None, sym, refl, ap, ◌∙◌, inl, inr, arith}
+use Rattle.std.proofs.Common.{◌≡◌, ℕ, zero, suc, ◌+◌, ◌<◌, ◌≤◌, true, false, List, [], ◌∷◌, ◌++◌, length, get_or, take, drop, Some, sym, refl, ap, ◌∙◌, inl, inr, arith}
 use Rattle.std.proofs.lemmas.Bool.{cases_Bool, both_ways}
-use Rattle.std.proofs.lemmas.List.{append-nil, length-drop, take_more, drop_more, drop_all, drop-drop, take-append-drop}
+use Rattle.std.proofs.lemmas.List.{drop_more, drop_all, drop-drop, take-append-drop}
 use Rattle.std.specs.List.{slice_get}
-use Rattle.cells.specs.Cells.{Shown}
-use Rattle.rows.specs.Lists.{span}
-use Rattle.rows.specs.Spread.{wide, columns_of, placed}
-use Rattle.rows.specs.Columns.{column_of, reads, shown, Whole, wide_at, inside, over}
+use Rattle.cells.specs.Cells.{Shown, meaning}
+use Rattle.cells.specs.declared.cell.Cell.{Cell}
+use Rattle.rows.specs.Spread.{wide, columns_of, spread}
+use Rattle.rows.specs.Columns.{reads, shown, Whole, wide_at, inside, over}
 use Rattle.rows.specs.Lasts.{on_last}
 use Rattle.rows.specs.Packing.{without_last}
 use Rattle.rows.specs.Bounds.{Sized}
-use Rattle.rows.proofs.Wholes.{Paired, paired, shown_append, shown_spread, whole_take, whole_columns}
-use Rattle.rows.proofs.Spans.{span_append, nth_placed, none_placed}
+use Rattle.rows.proofs.Wholes.{Paired, paired, shown_append, spread_append, whole_take}
 use Rattle.rows.proofs.Agreement.{on_last_push}
-use Rattle.columns.specs.Cols.{Last}
-use Rattle.columns.proofs.Means.{wide_is, narrow_is}
+use Rattle.columns.specs.Cols.{columns, Last}
+use Rattle.columns.proofs.Means.{sized_cell, wide_is, narrow_is}
 
 without_push : {X : Type 0} (xs : List X) (x : X) → without_last (xs ++ (x ∷ [])) ≡ xs
 without_push [] x = refl
@@ -26,17 +25,22 @@ module _ {A : Type 0} where
   hidden [] = refl
   hidden (y ∷ ys) = refl
 
+  read_first : (c : Shown A) (cs : List (Shown A)) → Sized c → shown (c ∷ cs) ≡ c ∷ shown (drop c.width (c ∷ cs))
+  read_first c cs s =
+      elim (cases_Bool (wide c)) [
+        | inl w ↦ ap (λ v. c ∷ reads v cs) w ∙ ap (λ v. c ∷ v) (hidden cs) ∙ ap (λ n. c ∷ shown (drop n (c ∷ cs))) (sym (wide_is c w))
+        | inr w ↦ ap (λ v. c ∷ reads v cs) w ∙ ap (λ n. c ∷ shown (drop n (c ∷ cs))) (sym (narrow_is c s w))
+      ]
+
   pub read_next : (xs : List (Shown A)) (i : ℕ) (c : Shown A) → Sized c → i < length xs → c ≡ get_or xs i c → shown (drop i xs) ≡ c ∷ shown (drop (i + c.width) xs)
   read_next xs i c s l e =
       let a : drop i xs ≡ c ∷ drop (i + 1) xs = drop_more xs i c l ∙ ap (λ v. v ∷ drop (i + 1) xs) (sym e) in
-      elim (cases_Bool (wide c)) [
-        | inl w ↦
-            let j : i + 1 + 1 ≡ i + 2 = omega arith in
-            let b : drop 1 (drop (i + 1) xs) ≡ drop (i + 2) xs = drop-drop 1 (i + 1) xs ∙ ap (λ n. drop n xs) j in
-            ap shown a ∙ ap (λ v. c ∷ reads v (drop (i + 1) xs)) w
-            ∙ ap (λ v. c ∷ v) (hidden (drop (i + 1) xs) ∙ ap shown b) ∙ ap (λ n. c ∷ shown (drop (i + n) xs)) (sym (wide_is c w))
-        | inr w ↦ ap shown a ∙ ap (λ v. c ∷ reads v (drop (i + 1) xs)) w ∙ ap (λ n. c ∷ shown (drop (i + n) xs)) (sym (narrow_is c s w))
-      ]
+      ap shown a ∙ read_first c (drop (i + 1) xs) s ∙ ap (λ v. c ∷ shown (drop c.width v)) (sym a) ∙ ap (λ v. c ∷ shown v) (drop-drop c.width i xs)
+
+  -- the first of the cells that code holds
+  pub read_cell : (xs : List (Cell A)) (c : Cell A) → Some c ≡ slice_get xs 0 → shown (columns xs) ≡ meaning c ∷ shown (drop (meaning c).width (columns xs))
+  read_cell [] c e = let z : ◌≡◌ {A = ℕ} 0 1 = cc in absurd (omega arith)
+  read_cell (x ∷ xs) c e = let h : c ≡ x = cc in rw h (read_first (meaning x) (columns xs) (sized_cell x))
 
   pub read_end : (xs : List (Shown A)) (i : ℕ) → length xs ≤ i → shown (drop i xs) ≡ []
   read_end xs i l = ap shown (drop_all i xs l)
@@ -62,9 +66,6 @@ module _ {A : Type 0} where
   pub whole_end : (xs : List (Shown A)) → Whole xs → inside (length xs) xs ≡ false
   whole_end xs w = paired_end xs (paired xs w)
 
-  pub shown_one : (c : Shown A) → shown (columns_of c) ≡ c ∷ []
-  shown_one c = ap shown (sym (append-nil (columns_of c))) ∙ shown_spread (c ∷ [])
-
   module _ (xs : List (Shown A)) (m : ℕ) (c : Shown A) (s : Sized c) (w : Whole xs) (h : Last xs m c) where
     pub last_front : Whole (take m xs)
     last_front = whole_take m xs h.starts w
@@ -79,58 +80,8 @@ module _ {A : Type 0} where
     last_gone = sym (ap without_last last_shown ∙ without_push (shown (take m xs)) c)
 
     -- the last cell changed in place
-    pub last_put : (f : Shown A → Shown A) → (f c).width ≡ c.width → shown (over m (f c) xs) ≡ on_last f (shown xs)
+    pub last_put : (f : Shown A → Shown A) → (f c).width ≡ c.width → over m (f c) xs ≡ spread (on_last f (shown xs))
     last_put f e =
-        let ys = shown (take m xs) in
         let z : drop (m + (f c).width) xs ≡ [] = drop_all (m + (f c).width) xs (let l = h.ends in omega arith) in
-        shown_append (take m xs) (columns_of (f c) ++ drop (m + (f c).width) xs) last_front
-        ∙ ap (λ v. ys ++ v)
-        (shown_append (columns_of (f c)) (drop (m + (f c).width) xs) (whole_columns (f c))
-        ∙ ap (λ v. shown (columns_of (f c)) ++ shown v) z ∙ append-nil (shown (columns_of (f c))) ∙ shown_one (f c))
-        ∙ sym (ap (on_last f) last_shown ∙ on_last_push f ys c)
-
--- a list from a place on
-module _ {X : Type 0} (xs : List X) (k : ℕ) (x : X) (rest : List X) (e : drop k xs ≡ x ∷ rest) where
-  pub next_within : k < length xs
-  next_within = let n = length-drop k xs in let m = ap length e in omega arith
-
-  parts : (get_or xs k x ≡ x) × (drop (k + 1) xs ≡ rest)
-  parts = let f = drop_more xs k x next_within in let g : get_or xs k x ∷ drop (k + 1) xs ≡ x ∷ rest = sym f ∙ e in (cc, cc)
-
-  pub next_is : get_or xs k x ≡ x
-  next_is = parts.0
-
-  pub next_drop : drop (k + 1) xs ≡ rest
-  next_drop = parts.1
-
-  pub next_take : take (k + 1) xs ≡ take k xs ++ (x ∷ [])
-  next_take = take_more xs k x next_within ∙ ap (λ v. take k xs ++ (v ∷ [])) next_is
-
-pub none_left : {X : Type 0} (xs : List X) (k : ℕ) → drop k xs ≡ [] → length xs ≤ k
-none_left xs k e = let n = length-drop k xs in let m = ap length e in omega arith
-
--- cells walked through, k of them, up to a column
-module _ {A : Type 0} (cols : List (Shown A)) (k at : ℕ) (e : shown (drop at cols) ≡ drop k (shown cols)) (f : at ≡ column_of k (shown cols)) where
-  module _ (c : Shown A) (s : Sized c) (l : at < length cols) (h : c ≡ get_or cols at c) where
-    here : drop k (shown cols) ≡ c ∷ shown (drop (at + c.width) cols)
-    here = sym e ∙ read_next cols at c s l h
-
-    pub walk_cells : shown (drop (at + c.width) cols) ≡ drop (k + 1) (shown cols)
-    walk_cells = sym (next_drop (shown cols) k c (shown (drop (at + c.width) cols)) here)
-
-    pub walk_column : at + c.width ≡ column_of (k + 1) (shown cols)
-    walk_column =
-        let t = ap span (next_take (shown cols) k c (shown (drop (at + c.width) cols)) here) ∙ span_append (take k (shown cols)) (c ∷ []) in
-        omega arith
-
-    pub walked : Some (record { column = at; cell = c }) ≡ slice_get (placed (shown cols)) k
-    walked =
-        let rest = shown (drop (at + c.width) cols) in
-        ap (λ n. Some (record { column = n; cell = c })) f
-        ∙ ap (λ v. Some (record { column = column_of k (shown cols); cell = v })) (sym (next_is (shown cols) k c rest here))
-        ∙ sym (nth_placed (shown cols) k c (next_within (shown cols) k c rest here))
-
-  pub walked_off : (n : ℕ) → length cols ≤ at → k ≤ n → None ≡ slice_get (placed (shown cols)) n
-  walked_off n l m =
-      let g = none_left (shown cols) k (sym e ∙ read_end cols at l) in
-      sym (none_placed (shown cols) n (omega arith))
+        ap (λ v. take m xs ++ (columns_of (f c) ++ v)) z ∙ ap (λ v. v ++ (columns_of (f c) ++ [])) (sym last_front)
+        ∙ sym (ap (λ v. spread (on_last f v)) last_shown ∙ ap spread (on_last_push f (shown (take m xs)) c) ∙ spread_append (shown (take m xs)) (f c ∷ []))

@@ -1,7 +1,7 @@
 -- Which columns are second ones, once others went or were filled up; and insertions.
-use Rattle.std.proofs.Common.{◌≡◌, ℕ, zero, suc, ◌+◌, ◌-◌, ◌<◌, ◌≤◌, max, true, false, cond, leb, List, [], ◌∷◌, ◌++◌, length, get_or, take, drop, replicate, sym, refl, ap, ◌∙◌, inl, inr, add-one, arith}
+use Rattle.std.proofs.Common.{◌≡◌, ℕ, zero, suc, ◌+◌, ◌-◌, ◌<◌, ◌≤◌, max, true, false, cond, List, [], ◌∷◌, ◌++◌, length, get_or, take, drop, replicate, sym, refl, ap, ◌∙◌, inl, inr, add-one, arith}
 use Rattle.std.proofs.lemmas.Bool.{cases_lt, le-leb, lt-leb, both_ways}
-use Rattle.std.proofs.lemmas.List.{append-nil, length-append, length-drop, length-replicate, length-take-le, take_at, drop_at, take-append-le, drop-append-le, drop-take, take-take}
+use Rattle.std.proofs.lemmas.List.{append-nil, length-append, length-replicate, length-take-le, take-append-le, drop-append-le, drop-take, take-take}
 use Rattle.cells.specs.Cells.{Shown, blank_with, plain_blank}
 use Rattle.cells.specs.Kinds.{Kind}
 use Rattle.rows.specs.Spread.{wide, columns_of}
@@ -18,9 +18,29 @@ module _ {A : Type 0} where
   wide_past zero (c ∷ xs) l = absurd (omega arith)
   wide_past (suc n) (c ∷ xs) l = wide_past n xs (omega arith)
 
+  pub inside_none : (x : ℕ) (xs : List (Shown A)) → x ≡ 0 → inside x xs ≡ false
+  inside_none x xs e = rw e
+
   pub inside_past : (x : ℕ) (xs : List (Shown A)) → length xs < x → inside x xs ≡ false
   inside_past zero xs l = refl
   inside_past (suc n) xs l = wide_past n xs (omega arith)
+
+  -- the next column, as far as columns reach
+  pub inside_next : (x y : ℕ) (xs : List (Shown A)) → (x < length xs → y ≡ x + 1) → (length xs ≤ x → length xs < y) → inside y xs ≡ inside (x + 1) xs
+  inside_next x y xs f h =
+      elim (cases_lt x (length xs)) [
+        | inl l ↦ rw (f l)
+        | inr l ↦ inside_past y xs (h l) ∙ sym (inside_past (x + 1) xs (omega arith))
+      ]
+
+  wide_within : (n : ℕ) (xs : List (Shown A)) → wide_at n xs ≡ true → n < length xs
+  wide_within n [] e = let z : ◌≡◌ {A = ℕ} 0 1 = cc in absurd (omega arith)
+  wide_within zero (c ∷ xs) e = omega arith
+  wide_within (suc n) (c ∷ xs) e = let h = wide_within n xs e in omega arith
+
+  pub inside_within : (x : ℕ) (xs : List (Shown A)) → inside x xs ≡ true → (0 < x) × (x ≤ length xs)
+  inside_within zero xs e = let z : ◌≡◌ {A = ℕ} 0 1 = cc in absurd (omega arith)
+  inside_within (suc n) xs e = let h = wide_within n xs e in (omega arith, omega arith)
 
   wide_read : (n : ℕ) (xs : List (Shown A)) (c : Shown A) → n < length xs → c ≡ get_or xs n c → wide_at n xs ≡ wide c
   wide_read n [] c l e = absurd (omega arith)
@@ -72,24 +92,13 @@ module _ {A : Type 0} where
     pub parts_short : length xs < m → inside x xs ≡ parts_wide k x m xs
     parts_short l = rw (lt-leb m (length xs) l, inside_padded k x x xs)
 
-    pub parts_first : m ≤ length xs → inside (m - 1) xs ≡ true → true ≡ parts_wide k x m xs
-    parts_first l e = rw (le-leb m (length xs) l, e)
-
     pub parts_below : m ≤ length xs → inside (m - 1) xs ≡ false → x < m → inside x xs ≡ parts_wide k x m xs
     parts_below l e h = rw (le-leb m (length xs) l, e, inside_padded k x x (without (m - 1) xs), inside_below (m - 1) x xs (omega arith))
 
     pub parts_above : 0 < m → m ≤ length xs → inside (m - 1) xs ≡ false → m ≤ x → inside (x + 1) xs ≡ parts_wide k x m xs
     parts_above p l e h = rw (le-leb m (length xs) l, e, inside_padded k x x (without (m - 1) xs), inside_above (m - 1) x xs (omega arith))
 
-  pub put_two : (x : ℕ) (c : Shown A) (xs ys zs : List (Shown A)) → x ≤ length xs → wide c ≡ true
-      → ys ≡ take x xs ++ (blank_with c.attrs ∷ drop x xs) → zs ≡ take x ys ++ (c ∷ drop x ys) → zs ≡ between x c xs
-  put_two x c xs ys zs l w e f =
-      let k : length (take x xs) ≡ x = length-take-le x xs l in
-      let a : take x ys ≡ take x xs = ap (take x) e ∙ take_at _ _ x k in
-      let b : drop x ys ≡ blank_with c.attrs ∷ drop x xs = ap (drop x) e ∙ drop_at _ _ x k in
-      rw w (f ∙ ap (λ v. v ++ (c ∷ drop x ys)) a ∙ ap (λ v. take x xs ++ (c ∷ v)) b)
-
-  length_padded : (k : Kind A) (x : ℕ) (xs : List (Shown A)) → length (padded k x xs) ≡ max x (length xs)
+  pub length_padded : (k : Kind A) (x : ℕ) (xs : List (Shown A)) → length (padded k x xs) ≡ max x (length xs)
   length_padded k x xs = length-append xs (replicate (x - length xs) (plain_blank k)) ∙ ap (λ n. length xs + n) (length-replicate (x - length xs) (plain_blank k)) ∙ omega arith
 
   pub padded_within : (k : Kind A) (x : ℕ) (xs : List (Shown A)) → x ≤ length xs → padded k x xs ≡ xs
@@ -117,28 +126,15 @@ module _ {A : Type 0} where
       ap (λ v. take x xs ++ (v ++ drop m xs)) e
       ∙ sym (ap (between x c) room ∙ ap (λ v. v ++ (columns_of c ++ drop x T)) a ∙ ap (λ v. take x xs ++ (v ++ drop x T)) o ∙ ap (λ v. take x xs ++ (c ∷ v)) b)
 
-  pub length_room : (k : Kind A) (x m : ℕ) (xs : List (Shown A)) → 0 < m → length (made_room k x m xs) ≡ max x (cond (leb m (length xs)) (length xs - 1) (length xs))
-  length_room k x m xs p =
-      elim (cases_lt (length xs) m) [
-        | inl l ↦ rw (lt-leb m (length xs) l) (length_padded k x xs)
-        | inr h ↦
-            let e : length (without (m - 1) xs) ≡ length xs - 1 =
-            let t : length (take (m - 1) xs) ≡ m - 1 = length-take-le (m - 1) xs (omega arith) in
-            let d : length (drop (m - 1 + 1) xs) ≡ length xs - (m - 1 + 1) = length-drop (m - 1 + 1) xs in
-            length-append (take (m - 1) xs) (drop (m - 1 + 1) xs) ∙ omega arith in
-            rw (le-leb m (length xs) h) (length_padded k x (without (m - 1) xs) ∙ ap (max x) e)
-      ]
+  pub last_wide : (xs : List (Shown A)) (end m : ℕ) (c : Shown A) → Whole xs → length xs ≡ end + 1 → true ≡ inside end xs → m ≡ end - 1 → c ≡ get_or xs m c → Last xs m c
+  last_wide xs zero m c w l e k h = absurd (both_ways true e refl)
+  last_wide xs (suc n) m c w l e k h =
+      let j : m ≡ n = omega arith in
+      let v : wide c ≡ true = sym (wide_read n xs c (omega arith) (rw j at h)) ∙ sym e in
+      record { within = omega arith; is = h; starts = rw j (inside_once n xs w (sym e)); ends = let t = wide_is c v in omega arith }
 
-  pub last_wide : (xs : List (Shown A)) (end : ℕ) (c : Shown A) → Whole xs → length xs ≡ end + 1 → true ≡ inside end xs → c ≡ get_or xs (end - 1) c → Last xs (end - 1) c
-  last_wide xs zero c w l e h = absurd (both_ways true e refl)
-  last_wide xs (suc m) c w l e h =
-      let k : suc m - 1 ≡ m = omega arith in
-      let h' : c ≡ get_or xs m c = rw k at h in
-      let v : wide c ≡ true = sym (wide_read m xs c (omega arith) h') ∙ sym e in
-      rw k (record { within = omega arith; is = h'; starts = inside_once m xs w (sym e); ends = let t = wide_is c v in omega arith })
-
-  pub last_narrow : (xs : List (Shown A)) (end : ℕ) (c : Shown A) → Sized c → Whole xs → length xs ≡ end + 1 → false ≡ inside end xs → c ≡ get_or xs end c → Last xs end c
-  last_narrow xs end c z w l e h =
+  pub last_narrow : (xs : List (Shown A)) (end m : ℕ) (c : Shown A) → Sized c → Whole xs → length xs ≡ end + 1 → false ≡ inside end xs → m ≡ end → c ≡ get_or xs m c → Last xs m c
+  last_narrow xs end m c z w l e j h =
       let k : length xs ≡ suc end = omega arith in
-      let v : wide c ≡ false = sym (wide_read end xs c (omega arith) h) ∙ ap (λ n. inside n xs) (sym k) ∙ whole_end xs w in
-      record { within = omega arith; is = h; starts = sym e; ends = let t = narrow_is c z v in omega arith }
+      let v : wide c ≡ false = sym (wide_read end xs c (omega arith) (rw j at h)) ∙ ap (λ n. inside n xs) (sym k) ∙ whole_end xs w in
+      record { within = omega arith; is = h; starts = rw j (sym e); ends = let t = narrow_is c z v in omega arith }

@@ -1,2 +1,3 @@
 pub mod Cols
 pub mod Laws
+pub mod Becoming

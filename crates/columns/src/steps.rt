@@ -1,22 +1,13 @@
-//! Steps on columns in memory with room.
-ghost use Rattle.std.specs.Prelude.{◌≡◌, ℕ, ◌+◌, ◌-◌, ◌<◌, ◌≤◌, max, ◌&&◌, List, [], ◌∷◌, ◌++◌, length, take, drop, vec_len, vec_capacity, nat_lt};
+//! Steps on columns.
+ghost use Rattle.std.specs.Prelude.{◌≡◌, ℕ, ◌+◌, ◌<◌, ◌≤◌, ◌&&◌, List, ◌++◌, length, nat_lt};
 ghost use Rattle.cells.specs.Cells.{meaning, is_plain};
 ghost use Rattle.rows.specs.Spread.{wide, columns_of};
 ghost use Rattle.rows.specs.Columns.{inside, blanked, padded, over};
-ghost use Rattle.columns.specs.Cols.{columns};
+ghost use Rattle.columns.specs.Becoming.{held, Becomes};
 
+use crate::cols::Columns;
 use cells::attributes::Attributes;
 use cells::cell::Cell;
-
-/// Whether n columns from a place on would pass a limit: exact however far the place is.
-pub(crate) fn passes(limit: usize, place: usize, n: usize) -> bool
-    ensures { result ≡ nat_lt limit (place + n) }
-{
-    if limit < place {
-        return true;
-    }
-    limit - place < n
-}
 
 pub(crate) fn is_wide<A: Copy>(c: &Cell<A>) -> bool
     ensures { result ≡ wide (meaning c.now) }
@@ -24,90 +15,76 @@ pub(crate) fn is_wide<A: Copy>(c: &Cell<A>) -> bool
     c.text.width() == 2
 }
 
-/// Whether column x is the second of a wide cell.
-pub(crate) fn is_second<A: Copy>(cols: &Vec<Cell<A>>, x: usize) -> bool
-    ensures { result ≡ inside x (columns cols.now.items) }
-{
-    if x == 0 {
-        return false;
+impl<A: Copy> Columns<A> {
+    /// Whether n columns from a place on would pass the limit: exact however far the place is.
+    pub(crate) fn passes(&self, place: usize, n: usize) -> bool
+        ensures { result ≡ nat_lt self.now.limit (place + n) }
+    {
+        self.limit < place.saturating_add(n)
     }
-    if cols.len() < x {
-        return false;
-    }
-    is_wide(&cols[x - 1])
-}
 
-/// Whether a cell set in column x adds no column: a plain blank past the end.
-pub(crate) fn adds_nothing<A: Attributes>(cols: &Vec<Cell<A>>, x: usize, c: &Cell<A>) -> bool
-    ensures { result ≡ (nat_lt (vec_len cols.now) x && is_plain A.Attributes.kind (meaning c.now)) }
-{
-    cols.len() < x && c.is_plain_blank()
-}
-
-/// A wide cell that starts just before column x becomes blanks.
-pub(crate) fn blank_before<A: Copy>(cols: &mut Vec<Cell<A>>, x: usize)
-    requires { x ≤ vec_len cols.old }
-    ensures row { columns cols.new.items ≡ blanked x (columns cols.old.items) }
-    ensures len { vec_len cols.new ≡ vec_len cols.old }
-    ensures capacity { vec_capacity cols.new ≡ vec_capacity cols.old }
-{
-    if x == 0 {
-        return;
+    /// Whether column x is the second of a wide cell.
+    #[tactic(auto, using(crate::proofs::Seconds::inside_none, crate::proofs::Seconds::inside_past, crate::proofs::Seconds::inside_read))]
+    pub(crate) fn is_second(&self, x: usize) -> bool
+        ensures { result ≡ inside x (held self.now) }
+    {
+        if x == 0 || self.len() < x {
+            return false;
+        }
+        is_wide(&self.at(x - 1))
     }
-    let c = cols[x - 1];
-    if is_wide(&c) {
-        cols[x - 1] = Cell::blank_with_attrs(c.attrs);
-    }
-}
 
-/// Fills up to n columns with plain blanks.
-pub(crate) fn pad<A: Attributes>(cols: &mut Vec<Cell<A>>, n: usize)
-    requires { n ≤ vec_capacity cols.old }
-    ensures row { columns cols.new.items ≡ padded A.Attributes.kind n (columns cols.old.items) }
-    ensures len { vec_len cols.new ≡ max n (vec_len cols.old) }
-    ensures capacity { vec_capacity cols.new ≡ vec_capacity cols.old }
-{
-    while cols.len() < n {
-        cols.push_reserved(Cell::blank());
+    /// A wide cell that starts just before column x becomes blanks.
+    #[tactic(auto, using(crate::proofs::Seconds::inside_within, crate::proofs::Writes::blanked_same))]
+    pub(crate) fn blank_before(&mut self, x: usize)
+        ensures { Becomes self.old self.new (blanked x (held self.old)) }
+    {
+        if self.is_second(x) {
+            let c = self.at(x - 1);
+            self.set(x - 1, Cell::blank_with_attrs(c.attrs));
+        }
     }
-}
 
-/// Column x becomes c, or c is added there.
-pub(crate) fn write<T: Copy>(cols: &mut Vec<T>, x: usize, c: T)
-    requires { (x ≤ vec_len cols.old) × (x < vec_capacity cols.old) }
-    ensures items { cols.new.items ≡ take x cols.old.items ++ (c ∷ drop (x + 1) cols.old.items) }
-    ensures len { vec_len cols.new ≡ max (x + 1) (vec_len cols.old) }
-    ensures capacity { vec_capacity cols.new ≡ vec_capacity cols.old }
-{
-    if x < cols.len() {
-        cols[x] = c;
-    } else {
-        cols.push_reserved(c);
+    /// The columns of c over those from x on.
+    #[tactic(auto, using(crate::proofs::Means::wide_is, crate::proofs::Writes::write_two, crate::proofs::Writes::over_wide))]
+    pub(crate) fn put(&mut self, x: usize, c: &Cell<A>)
+        requires { (x ≤ length (held self.old)) × (x + (meaning c.now).width ≤ self.old.limit) }
+        ensures { Becomes self.old self.new (over x (meaning c.now) (held self.old)) }
+    {
+        self.set(x, *c);
+        if is_wide(c) {
+            self.set(x + 1, Cell::blank_with_attrs(c.attrs));
+        }
+    }
+
+    /// Adds a cell's columns at the end.
+    pub(crate) fn push_cell(&mut self, c: &Cell<A>)
+        requires { length (held self.old) + (meaning c.now).width ≤ self.old.limit }
+        ensures { Becomes self.old self.new (held self.old ++ columns_of (meaning c.now)) }
+    {
+        self.push(*c);
+        if is_wide(c) {
+            self.push(Cell::blank_with_attrs(c.attrs));
+        }
     }
 }
 
-/// The columns of c over those from x on.
-pub(crate) fn put<A: Copy>(cols: &mut Vec<Cell<A>>, x: usize, c: &Cell<A>)
-    requires { (x ≤ vec_len cols.old) × (x + (meaning c.now).width ≤ vec_capacity cols.old) }
-    ensures row { columns cols.new.items ≡ over x (meaning c.now) (columns cols.old.items) }
-    ensures len { vec_len cols.new ≡ max (x + (meaning c.now).width) (vec_len cols.old) }
-    ensures capacity { vec_capacity cols.new ≡ vec_capacity cols.old }
-{
-    if is_wide(c) {
-        write(cols, x, *c);
-        write(cols, x + 1, Cell::blank_with_attrs(c.attrs));
-    } else {
-        write(cols, x, *c);
+impl<A: Attributes> Columns<A> {
+    /// Whether a cell set in column x adds no column: a plain blank past the end.
+    pub(crate) fn adds_nothing(&self, x: usize, c: &Cell<A>) -> bool
+        ensures { result ≡ (nat_lt (length (held self.now)) x && is_plain A.Attributes.kind (meaning c.now)) }
+    {
+        self.len() < x && c.is_plain_blank()
     }
-}
 
-/// Adds a cell's columns at the end.
-pub(crate) fn push_cell<A: Copy>(cols: &mut Vec<Cell<A>>, c: &Cell<A>)
-    requires { vec_len cols.old + (meaning c.now).width ≤ vec_capacity cols.old }
-    ensures row { columns cols.new.items ≡ columns cols.old.items ++ columns_of (meaning c.now) }
-    ensures len { vec_len cols.new ≡ vec_len cols.old + (meaning c.now).width }
-    ensures capacity { vec_capacity cols.new ≡ vec_capacity cols.old }
-{
-    let end = cols.len();
-    put(cols, end, c);
+    /// Fills up to n columns with plain blanks.
+    #[tactic(auto, using(crate::proofs::Writes::padded_same))]
+    pub(crate) fn pad(&mut self, n: usize)
+        requires { n ≤ self.old.limit }
+        ensures { Becomes self.old self.new (padded A.Attributes.kind n (held self.old)) }
+    {
+        for _ in self.len()..n {
+            self.push(Cell::blank());
+        }
+    }
 }

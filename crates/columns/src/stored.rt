@@ -2,35 +2,31 @@
 ghost use Rattle.std.specs.Prelude.{◌≡◌, ℕ, ◌≤◌, min, List, [], ◌∷◌, drop, vec_capacity};
 ghost use Rattle.rows.specs.Columns.{shown};
 ghost use Rattle.rows.specs.Packing.{grid_rule};
-ghost use Rattle.columns.specs.Cols.{columns, sized_room};
+ghost use Rattle.columns.specs.Cols.{sized_room};
+ghost use Rattle.columns.specs.Becoming.{held};
 ghost use Rattle.std.proofs.Common.{rules};
 ghost use Rattle.std.proofs.Math.Nat.{le_trans};
 ghost use Rattle.columns.specs.Laws.{sized_shown, span_within};
 
-use crate::ends::{cell_at, last_cell};
-use crate::steps::{passes, push_cell};
+use crate::cols::Columns;
 use crate::vecstorage::VecStorage;
 use cells::attributes::Attributes;
 use cells::cell::Cell;
 use cells::refusal::Refusal;
 use splitters::splitter::Splitter;
 use std::marker::PhantomData;
-use stores::cellat::CellAt;
-use stores::givens::cell_refusal;
+use stores::givens::check_cell;
 use stores::store::Store;
 
 impl<A: Attributes, P: Splitter> VecStorage<A, P> {
     /// A row that shows nothing, in memory handed over; the count is how many columns the caller means.
-    pub fn new(mut cells: Vec<Cell<A>>, count: usize, seqno: u64) -> VecStorage<A, P>
-        ensures row { columns result.cells.items ≡ [] }
+    pub fn new(cells: Vec<Cell<A>>, count: usize, seqno: u64) -> VecStorage<A, P>
+        ensures row { held result.columns ≡ [] }
         ensures change { result.seqno ≡ seqno }
-        ensures room { result.limit ≡ min count (min (vec_capacity cells) 4096) }
+        ensures room { result.columns.limit ≡ min count (min (vec_capacity cells) 4096) }
     {
-        cells.clear();
-        let limit = count.min(cells.capacity().min(4096));
         VecStorage {
-            cells,
-            limit,
+            columns: Columns::new(cells, count),
             seqno,
             splitter: PhantomData,
         }
@@ -46,28 +42,25 @@ impl<A: Attributes, P: Splitter> Store for VecStorage<A, P> {
 
     ghost number = { λ s. s.seqno };
 
-    ghost row = { λ s. record { cells = shown (columns s.cells.items); sizes = s.limit ∷ [] } };
+    ghost row = { λ s. record { cells = shown (held s.columns); sizes = s.columns.limit ∷ [] } };
 
     ghost rule = { λ sizes. grid_rule (sized_room sizes) };
 
-    ghost left = { λ s p. shown (drop p (columns s.cells.items)) };
+    ghost left = { λ s p. shown (drop p (held s.columns)) };
 
-    ghost within = { λ s. le_trans (span_within A.row.coded s.cells s.limit s.whole s.within) s.most };
+    ghost within = { λ s. le_trans (span_within A.row.coded s.columns s.whole) s.columns.most };
 
-    ghost sized = { λ s. sized_shown s.cells.items };
+    ghost sized = { λ s. sized_shown s.columns };
 
     ghost packer = { Prim.search rules };
 
+    #[tactic(auto, using(crate::specs::Laws::whole_of, crate::specs::Laws::span_held))]
     fn len(&self) -> usize {
-        self.cells.len()
+        self.columns.len()
     }
 
     fn current_seqno(&self) -> u64 {
         self.seqno
-    }
-
-    fn nth_cell(&self, n: usize) -> Option<CellAt<A>> {
-        cell_at(&self.cells, n)
     }
 
     fn start(&self) -> usize {
@@ -75,33 +68,27 @@ impl<A: Attributes, P: Splitter> Store for VecStorage<A, P> {
     }
 
     fn next_cell(&self, at: usize) -> Option<(Cell<A>, usize)> {
-        if self.cells.len() <= at {
+        if self.columns.len() <= at {
             return None;
         }
-        let c = self.cells[at];
+        let c = self.columns.at(at);
         Some((c, at + c.text.width()))
     }
 
     fn clear(&mut self) {
-        self.cells.clear();
+        self.columns.clear();
     }
 
+    #[tactic(auto, using(crate::specs::Laws::whole_of, crate::proofs::Means::sized_cell, crate::proofs::Reading::last_gone))]
     fn drop_last(&mut self) {
-        if self.cells.len() == 0 {
-            return;
+        if let Some(last) = self.columns.last() {
+            self.columns.truncate(last.column);
         }
-        let last = last_cell(&self.cells);
-        self.cells.truncate(last.column);
     }
 
+    #[tactic(auto, using(rows::proofs::Wholes::shown_spread, crate::specs::Laws::whole_of, crate::proofs::Dones::unless_same))]
     fn take(&mut self, c: &Cell<A>) -> Result<(), Refusal> {
-        if let Some(why) = cell_refusal::<P, A>(c) {
-            return Err(why);
-        }
-        if passes(self.limit, self.cells.len(), c.text.width()) {
-            return Err(Refusal::Full);
-        }
-        push_cell(&mut self.cells, c);
-        Ok(())
+        check_cell::<P, A>(c)?;
+        self.columns.add(c)
     }
 }

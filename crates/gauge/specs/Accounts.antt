@@ -1,20 +1,18 @@
 -- Displays, and an account of lines.
--- fit_of      whether columns fit a display, or by how many they pass it
+-- fit_of      by how many columns a line passes a display, if it does not fit
 -- plus        a sum that stops at 2^128 - 1
 -- empty       the account of no lines
 -- counted     an account with one line more
 -- account_on  an account with more lines, by what each comes to
 -- account_of  the account of lines, by what each comes to
-use Rattle.std.specs.Prelude.{ℕ, ◌+◌, ◌-◌, ◌^◌, min, max, cond, List, [], ◌∷◌, replicate, Ok, Err, Result, nat_lt, slice_index, slice_set}
+use Rattle.std.specs.Prelude.{ℕ, ◌+◌, ◌-◌, ◌^◌, min, max, cond, List, [], ◌∷◌, replicate, Some, None, Option, Ok, Err, Result, nat_lt, slice_index, slice_set}
 use Rattle.cells.specs.Refusals.{number}
 use Rattle.cells.specs.declared.refusal.Refusal.{Refusal}
 use Rattle.gauge.specs.declared.account.Account.{Account}
-use Rattle.gauge.specs.declared.fit.Fit.{Fit}
-use Rattle.gauge.specs.declared.fit.Fit.TheVariants.{Fits, PassesBy}
 use Rattle.gauge.specs.declared.measure.Measure.{Measure}
 
-abbrev pub fit_of : ℕ → ℕ → Fit
-fit_of columns display = cond (nat_lt display columns) (PassesBy (columns - display)) Fits
+abbrev pub fit_of : ℕ → ℕ → Option ℕ
+fit_of columns display = cond (nat_lt display columns) (Some (columns - display)) None
 
 abbrev pub plus : ℕ → ℕ → ℕ
 plus m n = min (m + n) (2 ^ 128 - 1)

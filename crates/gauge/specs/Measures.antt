@@ -2,6 +2,7 @@
 -- columns_of  the columns of pieces, each cleaned
 -- controls_of how many of them are controls
 -- any_long    whether one of them is longer than a cell's text may be
+-- tallied     counts with one piece more, or 3 where it is over seven bytes
 -- measured    columns, cells and controls of a line; or 1 where it is not good, 3 where a piece is over seven bytes
 use Rattle.std.specs.Prelude.{ℕ, ◌+◌, Bool, false, cond, not, ◌||◌, List, [], ◌∷◌, length, Result, nat_lt}
 use Rattle.cells.specs.Cleaning.{clean}
@@ -11,7 +12,6 @@ use Rattle.cells.specs.declared.refusal.Refusal.TheVariants.{NotGood, TooLong}
 use Rattle.splitters.specs.Pieces.{Part, parts}
 use Rattle.splitters.specs.Splits.{Splits, columns}
 use Rattle.gauge.specs.declared.measure.Measure.{Measure}
-use Rattle.gauge.specs.declared.measure.Tally.{Tally}
 
 abbrev pub columns_of : Splits → List Part → ℕ
 columns_of p [] = 0
@@ -31,11 +31,11 @@ measured p t =
     verdict (first_of ((not (p.good t), NotGood) ∷ (any_long all, TooLong) ∷ []))
     (record { columns = columns_of p all; cells = length all; controls = controls_of all })
 
--- counts with one piece more
-abbrev pub tallied : Splits → Tally → Part → Tally
-tallied p t x = record {
-  columns = t.columns + columns (p.width (clean x.bytes));
-  cells = t.cells + 1;
-  controls = t.controls + cond x.control 1 0;
-  long = t.long || nat_lt 7 (length (clean x.bytes));
-}
+abbrev pub tallied : Splits → Measure → Part → Result Measure Refusal
+tallied p m x =
+    verdict (first_of ((nat_lt 7 (length (clean x.bytes)), TooLong) ∷ []))
+    (record {
+      columns = m.columns + columns (p.width (clean x.bytes));
+      cells = m.cells + 1;
+      controls = m.controls + cond x.control 1 0;
+    })

@@ -1,5 +1,5 @@
 //! The account of lines: counts, the widest line, and refusals by number.
-#[derive(Clone, Copy)]
+#[derive(Clone, Copy, Debug, PartialEq, Eq)]
 pub struct Account {
     pub lines: u128,
     pub cells: u128,

@@ -3,7 +3,6 @@ ghost use Rattle.std.specs.Prelude.{◌≡◌};
 ghost use Rattle.gauge.specs.Accounts.{fit_of, past, empty, counted};
 
 use crate::account::Account;
-use crate::fit::Fit;
 use crate::measure::Measure;
 use cells::refusal::Refusal;
 
@@ -12,13 +11,14 @@ pub const DOOR: u128 = 40;
 
 pub const LAPTOP: u128 = 80;
 
-pub fn fit(columns: u128, display: u128) -> Fit
+/// By how many columns a line passes a display, if it does.
+pub fn excess(columns: u128, display: u128) -> Option<u128>
     ensures { result ≡ fit_of columns display }
 {
     if columns > display {
-        Fit::PassesBy(columns - display)
+        Some(columns - display)
     } else {
-        Fit::Fits
+        None
     }
 }
 
@@ -26,7 +26,7 @@ pub fn fit(columns: u128, display: u128) -> Fit
 fn passes(columns: u128, display: u128) -> u128
     ensures { result ≡ past columns display }
 {
-    if columns > display { 1 } else { 0 }
+    u128::from(excess(columns, display).is_some())
 }
 
 impl Account {

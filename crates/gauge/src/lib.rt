@@ -3,7 +3,6 @@
 
 pub mod account;
 pub mod accounts;
-pub mod fit;
 pub mod lines;
 pub mod measure;
 pub mod measuring;

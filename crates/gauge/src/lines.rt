@@ -1,49 +1,53 @@
 //! The lines of a text: each ends at a line feed, the last also at the end of the text.
-ghost use Rattle.std.specs.Prelude.{◌≡◌, drop};
-ghost use Rattle.std.specs.Option.{option_map};
-ghost use Rattle.gauge.specs.Lines.{lines_of, line_length, led};
+ghost use Rattle.std.specs.Prelude.{◌≡◌, ◌==◌};
+ghost use Rattle.std.specs.List.{position, before_first, after_first};
+ghost use Rattle.std.specs.Iterator.{YieldsFirstRef, item_count};
+ghost use Rattle.gauge.specs.Lines.{lines_of};
 
 #[derive(Drop)]
 pub struct Lines<'a> {
-    text: &'a [u8],
-    at: usize,
+    rest: &'a [u8],
 }
 
-/// How many bytes stand before the first line feed.
-fn line_len(text: &[u8]) -> usize
-    ensures { result ≡ line_length text.now }
+/// Where the first line feed stands, if there is one.
+fn line_end(text: &[u8]) -> Option<usize>
+    ensures { result ≡ position (λ b. b == 0x0a) text.now }
 {
-    for (i, b) in text.iter().enumerate() {
-        if *b == 0x0a {
-            return i;
-        }
-    }
-    text.len()
+    text.iter().position(|b| *b == b'\n')
+}
+
+/// What stands before the first line feed and what behind it; all and nothing where there is none.
+fn split_line(text: &[u8]) -> (&[u8], &[u8])
+    ensures line { result.0.now ≡ before_first (λ b. b == 0x0a) text.now }
+    ensures rest { result.1.now ≡ after_first (λ b. b == 0x0a) text.now }
+{
+    line_end(text).map_or((text, &[]), |n| (&text[..n], &text[n + 1..]))
 }
 
 impl<'a> Lines<'a> {
     pub fn new(text: &'a [u8]) -> Lines<'a>
-        ensures { (result.text.now ≡ text.now) × (result.at ≡ 0) }
+        ensures { result.rest.now ≡ text.now }
     {
-        Lines { text, at: 0 }
+        Lines { rest: text }
     }
+}
+
+impl<'a> Iterator for Lines<'a> {
+    type Item = &'a [u8];
+
+    // What is left then is what stands behind the first line feed.
+    ghost next_gives = { λ s line t. YieldsFirstRef (λ s. lines_of s.rest.now) s line t × (t.rest.now ≡ after_first (λ b. b == 0x0a) s.rest.now) };
+
+    ghost remaining = { item_count (λ s. lines_of s.rest.now) };
 
     /// The next line without its line feed, or none at the end.
-    pub fn next(&mut self) -> Option<&'a [u8]>
-        ensures line { lines_of (drop self.old.at self.old.text.now) ≡ led (option_map (λ x. x.now) result) (lines_of (drop self.new.at self.new.text.now)) }
-        ensures text { self.new.text.now ≡ self.old.text.now }
-    {
-        if self.at >= self.text.len() {
+    #[tactic(auto, using(crate::proofs::Splitting::lines_more))]
+    fn next(&mut self) -> Option<&'a [u8]> {
+        if self.rest.is_empty() {
             return None;
         }
-        let rest = &self.text[self.at..];
-        let n = line_len(rest);
-        let line = &rest[0..n];
-        self.at = if n < rest.len() {
-            self.at + n + 1
-        } else {
-            self.text.len()
-        };
+        let (line, rest) = split_line(self.rest);
+        self.rest = rest;
         Some(line)
     }
 }

@@ -3,51 +3,40 @@ ghost use Rattle.std.specs.Prelude.{◌≡◌, ◌+◌, ◌^◌, ◌<◌};
 ghost use Rattle.splitters.specs.Reading.{part_of};
 ghost use Rattle.gauge.specs.Measures.{measured, tallied};
 
-use crate::measure::{Measure, Tally};
+use crate::measure::Measure;
 use cells::cleaning::cleaned;
 use cells::refusal::Refusal;
 use splitters::piece::Piece;
 use splitters::pieces::Pieces;
 use splitters::splitter::Splitter;
 
-/// The counts with one piece more.
-fn with_piece<P: Splitter>(tally: Tally, piece: Piece<'_>) -> Tally
-    requires { (tally.cells + 1 < 2 ^ 64) × ((tally.controls + 1 < 2 ^ 64) × (tally.columns + 2 < 2 ^ 128)) }
-    ensures { result ≡ tallied P.Splitter.splits tally (part_of piece.entry) }
+/// The counts with one piece more; 3 where the piece is over seven bytes.
+fn with_piece<P: Splitter>(measure: Measure, piece: Piece<'_>) -> Result<Measure, Refusal>
+    requires { (measure.cells + 1 < 2 ^ 64) × (measure.controls + 1 < 2 ^ 64) × (measure.columns + 2 < 2 ^ 128) }
+    ensures { result ≡ tallied P.Splitter.splits measure (part_of piece.entry) }
 {
-    let (bytes, control) = match piece {
-        Piece::Text { at: _, bytes } => (bytes, 0),
-        Piece::Control { at: _, bytes } => (bytes, 1),
-    };
-    let text = cleaned(bytes);
-    Tally {
-        columns: tally.columns + P::width_of(text).columns() as u128,
-        cells: tally.cells + 1,
-        controls: tally.controls + control,
-        long: tally.long || text.len() > 7,
+    let text = cleaned(piece.bytes());
+    if text.len() > 7 {
+        return Err(Refusal::TooLong);
     }
+    Ok(Measure {
+        columns: measure.columns + P::width_of(text).columns() as u128,
+        cells: measure.cells + 1,
+        controls: measure.controls + usize::from(matches!(piece, Piece::Control { .. })),
+    })
 }
 
 /// The columns, cells and controls of a line; 1 where it is not good text, 3 where a piece is over seven bytes.
 pub fn measure<P: Splitter>(text: &[u8]) -> Result<Measure, Refusal>
     ensures { result ≡ measured P.Splitter.splits text.now }
 {
-    let mut reader = Pieces::<P>::new(text)?;
-    let mut tally = Tally {
+    let mut measure = Measure {
         columns: 0,
         cells: 0,
         controls: 0,
-        long: false,
     };
-    while let Some(piece) = reader.next() {
-        tally = with_piece::<P>(tally, piece);
+    for piece in Pieces::<P>::new(text)? {
+        measure = with_piece::<P>(measure, piece)?;
     }
-    if tally.long {
-        return Err(Refusal::TooLong);
-    }
-    Ok(Measure {
-        columns: tally.columns,
-        cells: tally.cells,
-        controls: tally.controls,
-    })
+    Ok(measure)
 }

@@ -11,6 +11,8 @@ use columns::vecstorage::VecStorage;
 use kinds::cellattributes::CellAttributes;
 use kinds::color::SmallColor;
 use std::alloc::{AllocError, Global};
+use std::fmt;
+use std::iter::successors;
 use stores::fill::Fill;
 use stores::grid::Grid;
 use stores::reader::Reader;
@@ -21,18 +23,14 @@ type Row = VecStorage<CellAttributes, Utf8>;
 
 const W: &[u8] = b"\xe4\xb8\xad";
 
-fn word(text: &[u8], width: usize) -> TeenyString {
-    match TeenyString::new(text, width) {
-        Ok(t) => t,
-        Err(_) => TeenyString::space(),
-    }
+fn coloured() -> CellAttributes {
+    CellAttributes::new(0, SmallColor::PaletteIndex(1), SmallColor::Default).unwrap_or(
+        CellAttributes::blank(),
+    )
 }
 
-fn coloured() -> CellAttributes {
-    match CellAttributes::new(0, SmallColor::PaletteIndex(1), SmallColor::Default) {
-        Ok(a) => a,
-        Err(_) => <CellAttributes as Attributes>::blank(),
-    }
+fn word(text: &[u8], width: usize) -> TeenyString {
+    TeenyString::new(text, width).unwrap_or(TeenyString::space())
 }
 
 /// The cell of a letter.
@@ -40,7 +38,7 @@ fn cell(letter: u8) -> Cell<CellAttributes> {
     let attrs = if letter == b'c' {
         coloured()
     } else {
-        <CellAttributes as Attributes>::blank()
+        CellAttributes::blank()
     };
     let text = match letter {
         b'W' => word(W, 2),
@@ -52,7 +50,7 @@ fn cell(letter: u8) -> Cell<CellAttributes> {
 
 /// The letter of a cell.
 fn letter(c: &Cell<CellAttributes>) -> char {
-    if c.text.same_text(&TeenyString::space()) {
+    if c.text == TeenyString::space() {
         return match c.attrs.foreground {
             SmallColor::Default => '_',
             SmallColor::PaletteIndex(_) => 'c',
@@ -64,266 +62,206 @@ fn letter(c: &Cell<CellAttributes>) -> char {
     }
 }
 
-/// The letters of a row's cells, and its change number.
-fn show(out: &mut String, heap: Global, row: &Row) -> Result<(), AllocError> {
-    let mut reader = Reader::new(row);
-    for _ in 0..4096 {
-        match reader.next() {
-            Some(c) => {
-                out.push(letter(&c))?;
-                if c.attrs.wrapped() {
-                    out.push('!')?;
-                }
+/// A row by the letters of its cells, and its change number.
+#[derive(Drop)]
+struct Shown<'a>(&'a Row);
+
+impl fmt::Display for Shown<'_> {
+    fn fmt<W: fmt::Write>(&self, f: &mut fmt::Formatter<W>) -> fmt::Result {
+        for c in Reader::new(self.0) {
+            f.write_char(letter(&c))?;
+            if c.attrs.wrapped() {
+                f.write_char('!')?;
             }
-            None => break,
         }
+        write!(f, "/{}", self.0.current_seqno())
     }
-    let number = row.current_seqno();
-    out.push_str(format!(in heap; "/{number}")?.as_str())
 }
 
-/// What a call answered, and the row after it.
-fn tell(
-    out: &mut String,
-    heap: Global,
-    answer: Result<(), Refusal>,
-    row: &Row,
-) -> Result<(), AllocError> {
-    match answer {
-        Ok(()) => out.push_str(" ok:")?,
-        Err(why) => {
-            let number = why.number();
-            out.push_str(format!(in heap; " {number}:")?.as_str())?;
-        }
-    }
-    show(out, heap, row)
-}
-
-/// A row with these cells and the number 1.
+/// Gives a row these cells and the number 1.
 fn build(row: &mut Row, cells: &[u8]) {
-    let _ = row.from_text(b"", &<CellAttributes as Attributes>::blank(), 1);
+    let _ = row.from_text(b"", &CellAttributes::blank(), 1);
     for b in cells {
         let _ = row.take(&cell(*b));
     }
 }
 
-fn sets(
-    out: &mut String,
-    heap: Global,
-    row: &mut Row,
-    cells: &[u8],
-    put: u8,
-) -> Result<(), AllocError> {
-    for x in 0..7 {
-        build(row, cells);
-        let answer = row.set_cell(x, &cell(put), 5);
-        tell(out, heap, answer, row)?;
-    }
-    Ok(())
+/// A row that is built of the same cells for each call, and what the calls came to, as text.
+#[derive(Drop)]
+struct Trial<'a> {
+    out: String,
+    row: Row,
+    cells: &'a [u8],
 }
 
-fn inserts(
-    out: &mut String,
-    heap: Global,
-    row: &mut Row,
-    cells: &[u8],
-    put: u8,
-) -> Result<(), AllocError> {
-    for margin in 0..7 {
-        for x in 0..6 {
-            build(row, cells);
-            let answer = row.insert_cell(x, &cell(put), margin, 5);
-            tell(out, heap, answer, row)?;
+impl Trial<'_> {
+    /// Builds the row and calls; writes what the call answers, and the row after it.
+    fn tell<F: FnOnce(&mut Row) -> Result<(), Refusal>>(
+        &mut self,
+        call: F,
+    ) -> Result<(), AllocError>
+        requires { F.IsAlwaysCallable call }
+    {
+        build(&mut self.row, self.cells);
+        match call(&mut self.row) {
+            Ok(()) => self.out.push_str(" ok:")?,
+            Err(why) => write!(self.out, " {}:", why.number())?,
         }
+        write!(self.out, "{}", Shown(&self.row))
     }
-    Ok(())
-}
 
-fn erases(out: &mut String, heap: Global, row: &mut Row, cells: &[u8]) -> Result<(), AllocError> {
-    for x in 0..6 {
-        build(row, cells);
-        row.erase_cell(x, 5);
-        tell(out, heap, Ok(()), row)?;
-    }
-    Ok(())
-}
-
-fn removes(out: &mut String, heap: Global, row: &mut Row, cells: &[u8]) -> Result<(), AllocError> {
-    for x in 0..6 {
-        build(row, cells);
-        row.remove_cell(x, 5);
-        tell(out, heap, Ok(()), row)?;
-    }
-    Ok(())
-}
-
-fn resizes(out: &mut String, heap: Global, row: &mut Row, cells: &[u8]) -> Result<(), AllocError> {
-    for width in 0..8 {
-        build(row, cells);
-        let answer = row.resize(width, 5);
-        tell(out, heap, answer, row)?;
-    }
-    Ok(())
-}
-
-/// The second row has room for two columns.
-fn splits(
-    out: &mut String,
-    heap: Global,
-    row: &mut Row,
-    second: &mut Row,
-    cells: &[u8],
-) -> Result<(), AllocError> {
-    for idx in 0..6 {
-        build(row, cells);
-        build(second, b"x");
-        let answer = row.split_off(idx, second, 0);
-        tell(out, heap, answer, row)?;
-        out.push('+')?;
-        show(out, heap, second)?;
-    }
-    Ok(())
-}
-
-fn ends(
-    out: &mut String,
-    heap: Global,
-    row: &mut Row,
-    other: &mut Row,
-    cells: &[u8],
-) -> Result<(), AllocError> {
-    build(row, cells);
-    row.prune_trailing_blanks(5);
-    tell(out, heap, Ok(()), row)?;
-    for on in [true, false] {
-        build(row, cells);
-        let answer = row.set_last_cell_was_wrapped(on, 5);
-        tell(out, heap, answer, row)?;
-    }
-    build(row, cells);
-    build(other, b"W");
-    let answer = row.append_line(other, 5);
-    tell(out, heap, answer, row)?;
-    build(row, cells);
-    row.drop_last();
-    tell(out, heap, Ok(()), row)?;
-    build(row, cells);
-    row.clear();
-    tell(out, heap, Ok(()), row)
-}
-
-fn takes(out: &mut String, heap: Global, row: &mut Row, cells: &[u8]) -> Result<(), AllocError> {
-    for b in b"xW_c" {
-        build(row, cells);
-        let answer = row.take(&cell(*b));
-        tell(out, heap, answer, row)?;
-    }
-    build(row, cells);
-    let answer = row.take(&Cell {
-        text: word(b"ab", 1),
-        attrs: <CellAttributes as Attributes>::blank(),
-    });
-    tell(out, heap, answer, row)?;
-    build(row, cells);
-    let answer = row.take(&Cell {
-        text: word(b"\xff", 1),
-        attrs: <CellAttributes as Attributes>::blank(),
-    });
-    tell(out, heap, answer, row)
-}
-
-fn texts(out: &mut String, heap: Global, row: &mut Row, cells: &[u8]) -> Result<(), AllocError> {
-    for text in [
-        b"" as &[u8],
-        b"ax",
-        b"a\xe4\xb8\xad\t",
-        b"aaaaax",
-        b"aaaaaax",
-        b"\xff",
-        b"ae\xcc\x81\xcc\x81\xcc\x81\xcc\x81",
-    ] {
-        build(row, cells);
-        let answer = row.from_text(text, &coloured(), 0);
-        tell(out, heap, answer, row)?;
-    }
-    Ok(())
-}
-
-/// The list number `code` of n letters.
-fn letters(n: usize, code: usize, into: &mut [u8; 4]) {
-    let mut left = code;
-    for i in 0..4 {
-        if i < n {
-            into[i] = b"aW_c"[left % 4];
-            left /= 4;
+    /// The same for each number from 0 on, below the count.
+    fn tell_each<F: Fn(&mut Row, usize) -> Result<(), Refusal>>(
+        &mut self,
+        count: usize,
+        call: F,
+    ) -> Result<(), AllocError>
+        requires { F.IsAlwaysCallable call }
+    {
+        for x in 0..count {
+            self.tell(|row| call(row, x))?;
         }
+        Ok(())
     }
+
+    fn sets_and_inserts(&mut self) -> Result<(), AllocError> {
+        for put in b"xW_c" {
+            self.out.push_str("\n set")?;
+            self.tell_each(7, |row, x| row.set_cell(x, &cell(*put), 5))?;
+        }
+        for put in b"xW" {
+            self.out.push_str("\n insert")?;
+            for margin in 0..7 {
+                self.tell_each(6, |row, x| row.insert_cell(x, &cell(*put), margin, 5))?;
+            }
+        }
+        Ok(())
+    }
+
+    fn erases_removes_and_resizes(&mut self) -> Result<(), AllocError> {
+        self.out.push_str("\n erase")?;
+        self.tell_each(6, |row, x| {
+            row.erase_cell(x, 5);
+            Ok(())
+        })?;
+        self.out.push_str("\n remove")?;
+        self.tell_each(6, |row, x| {
+            row.remove_cell(x, 5);
+            Ok(())
+        })?;
+        self.out.push_str("\n resize")?;
+        self.tell_each(8, |row, width| row.resize(width, 5))
+    }
+
+    /// The second row has room for two columns.
+    fn splits(&mut self, second: &mut Row) -> Result<(), AllocError> {
+        self.out.push_str("\n split")?;
+        for idx in 0..6 {
+            build(second, b"x");
+            self.tell(|row| row.split_off(idx, second, 0))?;
+            write!(self.out, "+{}", Shown(second))?;
+        }
+        Ok(())
+    }
+
+    fn ends(&mut self, second: &mut Row) -> Result<(), AllocError> {
+        self.out
+            .push_str("\n prune, flag on, flag off, append, drop, clear")?;
+        self.tell(|row| {
+            row.prune_trailing_blanks(5);
+            Ok(())
+        })?;
+        for on in [true, false] {
+            self.tell(|row| row.set_last_cell_was_wrapped(on, 5))?;
+        }
+        build(second, b"W");
+        self.tell(|row| row.append_line(second, 5))?;
+        self.tell(|row| {
+            row.drop_last();
+            Ok(())
+        })?;
+        self.tell(|row| {
+            row.clear();
+            Ok(())
+        })
+    }
+
+    fn takes(&mut self) -> Result<(), AllocError> {
+        self.out.push_str("\n take")?;
+        for b in b"xW_c" {
+            self.tell(|row| row.take(&cell(*b)))?;
+        }
+        for text in [b"ab" as &[u8], b"\xff"] {
+            self.tell(|row| row.take(&Cell {
+                text: word(text, 1),
+                attrs: CellAttributes::blank(),
+            }))?;
+        }
+        Ok(())
+    }
+
+    fn texts(&mut self) -> Result<(), AllocError> {
+        self.out.push_str("\n text")?;
+        for text in [
+            b"" as &[u8],
+            b"ax",
+            b"a\xe4\xb8\xad\t",
+            b"aaaaax",
+            b"aaaaaax",
+            b"\xff",
+            b"ae\xcc\x81\xcc\x81\xcc\x81\xcc\x81",
+        ] {
+            self.tell(|row| row.from_text(text, &coloured(), 0))?;
+        }
+        Ok(())
+    }
+
+    /// All calls on a row of these cells.
+    fn all(&mut self, second: &mut Row) -> Result<(), AllocError> {
+        build(&mut self.row, self.cells);
+        write!(self.out, "{}", Shown(&self.row))?;
+        self.sets_and_inserts()?;
+        self.erases_removes_and_resizes()?;
+        self.splits(second)?;
+        self.ends(second)?;
+        self.takes()?;
+        self.texts()
+    }
+}
+
+/// The list number `code` of n letters: the number's digits to the base 4, the lowest first.
+fn letters(heap: Global, n: usize, code: usize) -> Result<Vec<u8>, AllocError> {
+    successors(Some(code), |left| Some(left / 4))
+        .take(n)
+        .map(|left| b"aW_c"[left % 4])
+        .collect(heap)
 }
 
 fn columns_of(cells: &[u8]) -> usize {
-    let mut n: usize = 0;
-    for b in cells {
-        n = n.saturating_add(if *b == b'W' { 2 } else { 1 });
-    }
-    n
+    cells.iter().fold(
+        0,
+        |n: usize, b| n.saturating_add(if *b == b'W' { 2 } else { 1 }),
+    )
 }
 
-/// All calls on a row with these cells.
-fn calls(
-    out: &mut String,
-    heap: Global,
-    row: &mut Row,
-    second: &mut Row,
-    other: &mut Row,
-    cells: &[u8],
-) -> Result<(), AllocError> {
-    for put in b"xW_c" {
-        out.push_str("\n set")?;
-        sets(out, heap, row, cells, *put)?;
-    }
-    for put in b"xW" {
-        out.push_str("\n insert")?;
-        inserts(out, heap, row, cells, *put)?;
-    }
-    out.push_str("\n erase")?;
-    erases(out, heap, row, cells)?;
-    out.push_str("\n remove")?;
-    removes(out, heap, row, cells)?;
-    out.push_str("\n resize")?;
-    resizes(out, heap, row, cells)?;
-    out.push_str("\n split")?;
-    splits(out, heap, row, second, cells)?;
-    out.push_str("\n prune, flag on, flag off, append, drop, clear")?;
-    ends(out, heap, row, other, cells)?;
-    out.push_str("\n take")?;
-    takes(out, heap, row, cells)?;
-    out.push_str("\n text")?;
-    texts(out, heap, row, cells)
+fn blank_row(heap: Global, columns: usize) -> Result<Row, AllocError> {
+    Ok(VecStorage::new(Vec::with_capacity(heap, columns)?, columns, 1))
 }
 
 fn run(rt: &HostRuntime) -> anyhow::Result<()> {
     let heap = rt.alloc();
-    let mut row: Row = VecStorage::new(Vec::with_capacity(heap, 6)?, 6, 1);
-    let mut second: Row = VecStorage::new(Vec::with_capacity(heap, 2)?, 2, 1);
-    let mut other: Row = VecStorage::new(Vec::with_capacity(heap, 2)?, 2, 1);
-    let mut cells = [b'a'; 4];
-    let counts: [usize; 5] = [1, 4, 16, 64, 256];
-    for n in 0..5 {
-        for code in 0..counts[n] {
-            letters(n, code, &mut cells);
-            if columns_of(&cells[0..n]) <= 4 {
-                let mut out = String::new(heap);
-                build(&mut row, &cells[0..n]);
-                show(&mut out, heap, &row)?;
-                calls(
-                    &mut out,
-                    heap,
-                    &mut row,
-                    &mut second,
-                    &mut other,
-                    &cells[0..n],
-                )?;
-                rt.println(out)?;
+    let mut second = blank_row(heap, 2)?;
+    for (n, count) in [1, 4, 16, 64, 256].into_iter().enumerate() {
+        for code in 0..count {
+            let cells = letters(heap, n, code)?;
+            if columns_of(cells.as_slice()) <= 4 {
+                let mut trial = Trial {
+                    out: String::new(heap),
+                    row: blank_row(heap, 6)?,
+                    cells: cells.as_slice(),
+                };
+                trial.all(&mut second)?;
+                rt.println(trial.out.as_str())?;
             }
         }
     }

@@ -4,18 +4,16 @@
 -- painted       the number and the colours of the value that is made, or the refusal
 -- color_kind    the kind
 -- (The other names are proofs of its laws.)
-use Rattle.std.specs.Prelude.{◌≡◌, ℕ, ◌+◌, ◌*◌, ◌/◌, ◌%◌, ◌^◌, ◌<◌, Bool, true, false, ◌&&◌, [], ◌∷◌, Result, ◌==◌, refl}
-use Rattle.std.proofs.Common.{sym, ap, subst, ◌∙◌, arith, lit<}
+use Rattle.std.specs.Prelude.{◌≡◌, ℕ, ◌/◌, ◌%◌, ◌^◌, ◌<◌, Bool, true, false, ◌&&◌, [], ◌∷◌, Result, ◌==◌, refl}
+use Rattle.std.proofs.Common.{sym, ap, subst, arith, lit<}
 use mathlib.Core.HLevel.{is_prop→PathP}
 use Rattle.std.proofs.Math.Bridge.{le_prop}
-use Rattle.std.proofs.lemmas.Bool.{false≢true, eqb-true, eqb-false, eq-eqb, ne_eqb}
-use Rattle.std.proofs.lemmas.Nat.{shr-shr}
+use Rattle.std.proofs.lemmas.Bool.{false≢true, eqb-true, eqb-false, eq-eqb, ne_eqb, and_parts, and_from}
 use Rattle.cells.specs.Refusals.{first_of, verdict}
 use Rattle.cells.specs.declared.refusal.Refusal.{Refusal}
 use Rattle.cells.specs.declared.refusal.Refusal.TheVariants.{BadType}
 use Rattle.kinds.specs.Bitfields.{flag_bit, type_bits, with_flag}
 use Rattle.cells.specs.Kinds.{Kind, named}
-use Rattle.cells.proofs.Identical.{both}
 use Rattle.kinds.specs.declared.color.SmallColor.{SmallColor}
 use Rattle.kinds.specs.declared.color.SmallColor.TheVariants.{Default, PaletteIndex}
 use Rattle.kinds.specs.declared.cellattributes.CellAttributes.{CellAttributes}
@@ -43,14 +41,9 @@ by_parts a b p q r i = record {
   typed = is_prop→PathP (λ j. type_bits (p j) < 3) (λ j. le_prop) a.typed b.typed i;
 }
 
-above_flag : (n low : ℕ) → low < 2 ^ 12 → (n / 2 ^ 12 * 2 ^ 12 + low) / 2 ^ 13 ≡ n / 2 ^ 13
-above_flag n low h =
-    let e : (n / 2 ^ 12 * 2 ^ 12 + low) / 2 ^ 12 ≡ n / 2 ^ 12 = omega arith in
-    sym (shr-shr (n / 2 ^ 12 * 2 ^ 12 + low) 12 1) ∙ ap (λ (k : ℕ). k / 2 ^ 1) e ∙ shr-shr n 12 1
-
 pub same_flagged : (n : ℕ) (on : Bool) → type_bits (with_flag n on) ≡ type_bits n
-same_flagged n true = ap (λ (k : ℕ). k % 4) (above_flag n (2 ^ 11 + n % 2 ^ 11) (omega arith))
-same_flagged n false = ap (λ (k : ℕ). k % 4) (above_flag n (0 + n % 2 ^ 11) (omega arith))
+same_flagged n true = omega arith
+same_flagged n false = omega arith
 
 abbrev pub flagged : CellAttributes → Bool → CellAttributes
 flagged a on = record {
@@ -75,16 +68,13 @@ color_itself (PaletteIndex n) = eq-eqb n n refl
 
 pub color_identical : (a b : CellAttributes) → color_same a b ≡ true → a ≡ b
 color_identical a b e =
-    let n = both _ _ e in
-    let c = both _ _ n.1 in
+    let n = and_parts _ _ e in
+    let c = and_parts _ _ n.1 in
     by_parts a b (eqb-true a.attributes b.attributes n.0) (one_color _ _ c.0) (one_color _ _ c.1)
 
-all : (x y z : Bool) → x ≡ true → y ≡ true → z ≡ true → (x && (y && z)) ≡ true
-all true y z p q r = ap (λ v. v && z) q ∙ r
-all false y z p q r = p
-
 pub color_reflexive : (a : CellAttributes) → color_same a a ≡ true
-color_reflexive a = all _ _ _ (eq-eqb a.attributes a.attributes refl) (color_itself a.foreground) (color_itself a.background)
+color_reflexive a =
+    and_from _ _ (eq-eqb a.attributes a.attributes refl) (and_from _ _ (color_itself a.foreground) (color_itself a.background))
 
 pub flag_reads : (n : ℕ) (on : Bool) → flag_bit (with_flag n on) ≡ on
 flag_reads n true = eq-eqb _ 1 (omega arith)

@@ -4,10 +4,11 @@
 -- strip_kind    the kind
 -- (The other names are proofs of its laws.)
 use Rattle.std.specs.Prelude.{◌≡◌, Bool, true, false, ◌&&◌, refl}
-use Rattle.cells.proofs.Identical.{both, one_type, one_flag}
+use Rattle.std.proofs.lemmas.Bool.{and_parts, and_from}
+use Rattle.cells.proofs.Identical.{one_type, type_itself, one_flag, flag_itself}
 use Rattle.cells.specs.Kinds.{Kind, same_type, same_flag}
 use Rattle.cells.specs.declared.semantic.SemanticType.{SemanticType}
-use Rattle.cells.specs.declared.semantic.SemanticType.TheVariants.{Output, Input, Prompt}
+use Rattle.cells.specs.declared.semantic.SemanticType.TheVariants.{Output}
 use Rattle.kinds.specs.declared.strip.StripAttributes.{StripAttributes}
 
 abbrev pub strip : SemanticType → Bool → StripAttributes
@@ -18,16 +19,11 @@ strip_same a b = same_type a.semantic b.semantic && same_flag a.wrapped b.wrappe
 
 pub identical : (a b : StripAttributes) → strip_same a b ≡ true → a ≡ b
 identical a b e i =
-    let h = both (same_type a.semantic b.semantic) (same_flag a.wrapped b.wrapped) e in
+    let h = and_parts (same_type a.semantic b.semantic) (same_flag a.wrapped b.wrapped) e in
     strip (one_type a.semantic b.semantic h.0 i) (one_flag a.wrapped b.wrapped h.1 i)
 
-pub itself : (t : SemanticType) (on : Bool) → strip_same (strip t on) (strip t on) ≡ true
-itself Output true = refl
-itself Output false = refl
-itself Input true = refl
-itself Input false = refl
-itself Prompt true = refl
-itself Prompt false = refl
+pub itself : (a : StripAttributes) → strip_same a a ≡ true
+itself a = and_from _ _ (type_itself a.semantic) (flag_itself a.wrapped)
 
 abbrev pub strip_kind : Kind StripAttributes
 strip_kind = record {
@@ -37,7 +33,7 @@ strip_kind = record {
   flagged = λ a on. strip a.semantic on;
   semantic = λ a. a.semantic;
   identical = identical;
-  reflexive = λ a. itself a.semantic a.wrapped;
+  reflexive = itself;
   reads = λ a on. refl;
   twice = λ a on off. refl;
   stays = λ a. refl;

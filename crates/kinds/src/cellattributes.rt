@@ -4,7 +4,7 @@ ghost use Rattle.kinds.specs.Bitfields.{type_bits};
 
 use crate::color::SmallColor;
 
-#[derive(Clone, Copy)]
+#[derive(Clone, Copy, PartialEq, Eq)]
 pub struct CellAttributes {
     pub attributes: u32,
     pub foreground: SmallColor,

@@ -1,7 +1,10 @@
 //! The colour kind: a 32-bit number and two colours.
+ghost use Rattle.std.proofs.Common.{rules};
 ghost use Rattle.std.specs.Prelude.{◌≡◌};
-ghost use Rattle.kinds.specs.Colors.{same_color, color_kind, painted};
+ghost use Rattle.kinds.specs.Colors.{color_kind, painted};
+ghost use Rattle.cells.specs.Kinds.{typed};
 ghost use Rattle.cells.specs.Refusals.{mapped};
+ghost use Rattle.kinds.specs.Bitfields.{type_bits};
 
 use crate::cellattributes::CellAttributes;
 use crate::color::SmallColor;
@@ -11,19 +14,11 @@ use cells::semantic::SemanticType;
 
 const WRAPPED: u32 = 0x0000_0800;
 
-const UNWRAPPED: u32 = 0xffff_f7ff;
-
-impl SmallColor {
-    /// Whether two colours are one.
-    pub fn same(&self, other: &SmallColor) -> bool
-        ensures { result ≡ same_color self.now other.now }
-    {
-        match (*self, *other) {
-            (SmallColor::Default, SmallColor::Default) => true,
-            (SmallColor::PaletteIndex(a), SmallColor::PaletteIndex(b)) => a == b,
-            _ => false,
-        }
-    }
+/// The type in the bits of the number; 12 where it is 3.
+fn type_of(attributes: u32) -> Result<SemanticType, Refusal>
+    ensures { result ≡ typed (type_bits attributes) }
+{
+    SemanticType::try_from(((attributes >> 13) & 3) as u8)
 }
 
 impl CellAttributes {
@@ -35,9 +30,7 @@ impl CellAttributes {
     ) -> Result<CellAttributes, Refusal>
         ensures { mapped (λ a. (a.attributes, a.foreground, a.background)) result ≡ painted attributes foreground background }
     {
-        if (attributes >> 13) & 3 == 3 {
-            return Err(Refusal::BadType);
-        }
+        type_of(attributes)?;
         Ok(CellAttributes {
             attributes,
             foreground,
@@ -49,6 +42,8 @@ impl CellAttributes {
 impl Attributes for CellAttributes {
     ghost kind = { color_kind };
 
+    ghost equal = { Prim.search rules };
+
     fn blank() -> CellAttributes {
         CellAttributes {
             attributes: 0,
@@ -57,26 +52,21 @@ impl Attributes for CellAttributes {
         }
     }
 
-    fn same(&self, other: &CellAttributes) -> bool {
-        self.attributes == other.attributes
-            && self.foreground.same(&other.foreground)
-            && self.background.same(&other.background)
-    }
-
+    #[tactic(auto, using(crate::proofs::Fields::flag_and))]
     fn wrapped(&self) -> bool {
         self.attributes & WRAPPED != 0
     }
 
+    #[tactic(auto, using(crate::proofs::Fields::flag_set, crate::proofs::Fields::flag_cleared, crate::specs::Colors::by_parts))]
     fn set_wrapped(&mut self, on: bool) {
-        let flag = if on { WRAPPED } else { 0 };
-        self.attributes = (self.attributes & UNWRAPPED) | flag;
+        if on {
+            self.attributes |= WRAPPED;
+        } else {
+            self.attributes &= !WRAPPED;
+        }
     }
 
     fn semantic_type(&self) -> SemanticType {
-        match (self.attributes >> 13) & 3 {
-            0 => SemanticType::Output,
-            1 => SemanticType::Input,
-            _ => SemanticType::Prompt,
-        }
+        type_of(self.attributes).unwrap()
     }
 }

@@ -1,4 +1,5 @@
 //! The strip kind: only a semantic type and the wrapped flag.
+ghost use Rattle.std.proofs.Common.{rules};
 ghost use Rattle.std.specs.Prelude.{◌≡◌};
 ghost use Rattle.cells.specs.Kinds.{typed};
 ghost use Rattle.cells.specs.Refusals.{mapped};
@@ -10,11 +11,12 @@ use cells::refusal::Refusal;
 use cells::semantic::SemanticType;
 
 impl StripAttributes {
+    // A number, and no `SemanticType`: callers may give any, and 12 is for the wrong ones.
     /// By the number of a type; 12 where there is no such type.
     pub fn new(number: u8, wrapped: bool) -> Result<StripAttributes, Refusal>
         ensures { result ≡ mapped (λ t. strip t wrapped) (typed number) }
     {
-        let semantic = SemanticType::from_number(number)?;
+        let semantic = SemanticType::try_from(number)?;
         Ok(StripAttributes { semantic, wrapped })
     }
 }
@@ -22,15 +24,13 @@ impl StripAttributes {
 impl Attributes for StripAttributes {
     ghost kind = { strip_kind };
 
+    ghost equal = { Prim.search rules };
+
     fn blank() -> StripAttributes {
         StripAttributes {
             semantic: SemanticType::Output,
             wrapped: false,
         }
-    }
-
-    fn same(&self, other: &StripAttributes) -> bool {
-        self.semantic.number() == other.semantic.number() && self.wrapped == other.wrapped
     }
 
     fn wrapped(&self) -> bool {

@@ -1,24 +1,12 @@
 //! The panel's work on texts that one stored run cannot show: no input, no final line feed, nothing but line feeds; and its help.
 #![tactic(auto)]
 
-use cells::attributes::Attributes;
-use columns::vecstorage::VecStorage;
-use kinds::cellattributes::CellAttributes;
+use panels::report_text;
 use reports::help::HELP;
-use reports::panels::report;
-use utf8::Utf8;
 
 fn case(rt: &HostRuntime, name: &str, text: &[u8]) -> anyhow::Result<()> {
     println!(rt; "== {name}")?;
-    let cells = Vec::with_capacity(rt.alloc(), 4096)?;
-    let mut row: VecStorage<CellAttributes, Utf8> = VecStorage::new(cells, 4096, 0);
-    let _ = report(
-        rt,
-        rt.alloc(),
-        &mut row,
-        &<CellAttributes as Attributes>::blank(),
-        text,
-    )?;
+    report_text(rt, rt.alloc(), text)?;
     Ok(())
 }
 

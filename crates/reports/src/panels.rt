@@ -1,4 +1,4 @@
-//! The panel's work on a whole text.
+//! What the panel prints of a text, with any row to put its lines on.
 ghost use Rattle.std.specs.Prelude.{◌≡◌, map, IfOk};
 ghost use Rattle.gauge.specs.Accounts.{account_of};
 ghost use Rattle.gauge.specs.Lines.{lines_of};
@@ -17,17 +17,15 @@ use stores::fill::Fill;
 use stores::grid::Grid;
 use stores::store::Store;
 
+// What prints and what gives memory are two handles, as the library hands them out, and go side by side.
+
 /// Prints a row as a display shows it, with its change number.
 fn show_row<S: Store>(rt: &impl Print, heap: Global, row: &S) -> io::Result<()> {
     let text = board_text(heap, row, board_width(row.len()))?;
-    let number = row.current_seqno();
-    match std::str::from_utf8(text.as_slice()) {
-        Ok(text) => rt.println(RowReport { number, text }),
-        Err(_) => rt.println(RowReport {
-            number,
-            text: "(not UTF-8)",
-        }),
-    }
+    rt.println(RowReport {
+        number: row.current_seqno(),
+        text: str::from_utf8(text.as_slice()).unwrap_or("(not UTF-8)"),
+    })
 }
 
 /// Puts each line of a text on a row, prints what it comes to and how it shows, and then the account, which it answers.
@@ -42,9 +40,9 @@ pub fn report<G: Grid>(
     ensures { IfOk result (λ a. a ≡ account_of (map (come_to G.Split.splits (G.Fill.room (G.Store.row row.old).sizes) attrs.now) (lines_of text.now))) }
 {
     let mut account = Account::new();
-    let mut lines = Lines::new(text);
+    // A change number is no index: it goes on by two for each line, and stops at the largest number.
     let mut seqno: u64 = 0;
-    while let Some(line) = lines.next() {
+    for line in Lines::new(text) {
         let set = seqno.saturating_add(1);
         seqno = set.saturating_add(1);
         let outcome = put_line(row, line, attrs, set, seqno);

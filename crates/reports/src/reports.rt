@@ -1,8 +1,7 @@
 //! What the panel says of a line and of all lines.
 use cells::refusal::Refusal;
 use gauge::account::Account;
-use gauge::accounts::{DOOR, LAPTOP, fit};
-use gauge::fit::Fit;
+use gauge::accounts::{DOOR, LAPTOP, excess};
 use gauge::measure::Measure;
 use std::fmt;
 
@@ -24,94 +23,64 @@ pub struct RowReport<'a> {
     pub text: &'a str,
 }
 
-/// Whether a display suffices.
+// A struct of its own, since an `Option` prints in no way of ours.
+/// Whether a line fits a display, or by how many columns it passes it.
 #[derive(Drop)]
-struct Fitting(Fit);
-
-/// A refusal in words, for whoever sent the line.
-#[derive(Drop)]
-struct Sentence(Refusal);
+struct Fitting(Option<u128>);
 
 impl fmt::Display for Fitting {
     fn fmt<W: fmt::Write>(&self, f: &mut fmt::Formatter<W>) -> fmt::Result {
         match self.0 {
-            Fit::Fits => write!(f, "fits"),
-            Fit::PassesBy(by) => write!(f, "passes by {by}"),
+            None => write!(f, "fits"),
+            Some(by) => write!(f, "passes by {by}"),
         }
-    }
-}
-
-impl fmt::Display for Sentence {
-    fn fmt<W: fmt::Write>(&self, f: &mut fmt::Formatter<W>) -> fmt::Result {
-        let words = match self.0 {
-            Refusal::NotGood => "the text is not good text",
-            Refusal::NotOnePiece => "the text is not one piece",
-            Refusal::TooLong => "a piece of the text is longer than 7 bytes",
-            Refusal::BadWidth => "the width is not 1 or 2, or is 2 for a space",
-            Refusal::MarginZero => "the margin is 0",
-            Refusal::PastCapacity => "the row would pass its capacity",
-            Refusal::PartsWide => "a wide cell would be parted",
-            Refusal::NoSuchRow => "there is no such wrapped row",
-            Refusal::TooSmall => "the memory or row for the result is too small",
-            Refusal::Fuses => "two neighbouring texts fuse",
-            Refusal::Full => "the store has no room",
-            Refusal::BadType => "there is no such semantic type",
-        };
-        write!(f, "{words}")
     }
 }
 
 impl fmt::Display for LineReport<'_> {
     fn fmt<W: fmt::Write>(&self, f: &mut fmt::Formatter<W>) -> fmt::Result {
-        let number = self.number;
-        match self.outcome {
-            Ok(m) => {
-                let columns = m.columns;
-                let cells = m.cells;
-                let controls = m.controls;
-                let door = Fitting(fit(columns, DOOR));
-                let laptop = Fitting(fit(columns, LAPTOP));
-                write!(
-                    f,
-                    "line {number}: {columns} columns, {cells} cells, {controls} controls became blanks"
-                )?;
-                write!(f, "; door display: {door}; laptop: {laptop}")
-            }
-            Err(why) => {
-                let refusal = why.number();
-                let words = Sentence(*why);
-                write!(f, "line {number}: refused {refusal}: {words}")
-            }
+        let LineReport { number, outcome } = self;
+        match outcome {
+            Ok(m) => write!(
+                f,
+                "line {number}: {} columns, {} cells, {} controls became blanks; door display: {}; laptop: {}",
+                m.columns,
+                m.cells,
+                m.controls,
+                Fitting(excess(m.columns, DOOR)),
+                Fitting(excess(m.columns, LAPTOP))
+            ),
+            Err(why) => write!(f, "line {number}: refused {}: {why}", why.number()),
         }
     }
 }
 
 impl fmt::Display for RowReport<'_> {
     fn fmt<W: fmt::Write>(&self, f: &mut fmt::Formatter<W>) -> fmt::Result {
-        let number = self.number;
-        let text = self.text;
+        let RowReport { number, text } = self;
         write!(f, "  shown at change number {number}: |{text}|")
     }
 }
 
 impl fmt::Display for AccountReport<'_> {
     fn fmt<W: fmt::Write>(&self, f: &mut fmt::Formatter<W>) -> fmt::Result {
-        let lines = self.0.lines;
-        let cells = self.0.cells;
-        let columns = self.0.columns;
-        let widest = self.0.widest;
-        let door = self.0.door;
-        let laptop = self.0.laptop;
+        let Account {
+            lines,
+            cells,
+            columns,
+            widest,
+            door,
+            laptop,
+            refused,
+        } = self.0;
         writeln!(f, "lines: {lines}")?;
         writeln!(f, "cells: {cells}")?;
         writeln!(f, "columns: {columns}")?;
         writeln!(f, "widest line: {widest} columns")?;
-        writeln!(f, "too wide for the door display (40 columns): {door}")?;
-        write!(f, "too wide for the laptop (80 columns): {laptop}")?;
-        for i in 0..12 {
-            let count = self.0.refused[i];
-            if count > 0 {
-                let number = i + 1;
+        writeln!(f, "too wide for the door display ({DOOR} columns): {door}")?;
+        write!(f, "too wide for the laptop ({LAPTOP} columns): {laptop}")?;
+        for (number, count) in (1..).zip(refused) {
+            if *count > 0 {
                 write!(f, "\nrefused {number}: {count}")?;
             }
         }

@@ -2,8 +2,6 @@
 ghost use Rattle.rows.specs.Choosing.{Chooses};
 
 /// The smallest number that fits is given, and a refusal changes nothing.
-pub fn chooses_smallest<K>() -> u8
+pub fn chooses_smallest<K>()
     ensures { Chooses K }
-{
-    0
-}
+{}

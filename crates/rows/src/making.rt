@@ -2,8 +2,6 @@
 ghost use Rattle.rows.specs.Making.{KeepsTo};
 
 /// A row made by calls keeps to its splitter, so that compaction refuses with 10 or 11 only.
-pub fn keeps_to_splitter<K>() -> u8
+pub fn keeps_to_splitter<K>()
     ensures { KeepsTo K }
-{
-    0
-}
+{}

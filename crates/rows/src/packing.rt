@@ -2,22 +2,16 @@
 ghost use Rattle.rows.specs.PackingLaws.{Twins, Compacts, Strikes};
 
 /// Compaction gives the first refused cell's refusal.
-pub fn gives_first_refused<K>() -> u8
+pub fn gives_first_refused<K>()
     ensures { Compacts K }
-{
-    0
-}
+{}
 
 /// Compactions and expansions can be struck from a list of calls.
-pub fn strikes_packing<K>() -> u8
+pub fn strikes_packing<K>()
     ensures { Strikes K }
-{
-    0
-}
+{}
 
 /// Lists of calls that are the same with compactions and expansions struck leave the same and answer the same otherwise.
-pub fn twins_agree<K>() -> u8
+pub fn twins_agree<K>()
     ensures { Twins K }
-{
-    0
-}
+{}

@@ -2,8 +2,6 @@
 ghost use Rattle.rows.specs.Samples.{SamplesHold};
 
 /// For every kind of attributes `K`, and every splitter that reads the samples' texts as pieces.
-pub fn samples_hold<K>() -> u8
+pub fn samples_hold<K>()
     ensures { SamplesHold K }
-{
-    0
-}
+{}

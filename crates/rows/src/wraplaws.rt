@@ -2,36 +2,26 @@
 ghost use Rattle.rows.specs.WrapLaws.{Trimming, Rejoins, GreedyRows, Alone, Answers};
 
 /// What is left out at the end of cells.
-pub fn trimming<K>() -> u8
+pub fn trimming<K>()
     ensures { Trimming K }
-{
-    0
-}
+{}
 
 /// Wrapped rows join back, and each fits or is one cell, by any proper cut.
-pub fn rejoins<K>() -> u8
+pub fn rejoins<K>()
     ensures { Rejoins K }
-{
-    0
-}
+{}
 
 /// The greedy cut makes the fewest rows, and a new row begins exactly when the next cell would pass the width.
-pub fn fewest<K>() -> u8
+pub fn fewest<K>()
     ensures { GreedyRows K }
-{
-    0
-}
+{}
 
 /// Spaces alone come back as they are.
-pub fn spaces_alone<K>() -> u8
+pub fn spaces_alone<K>()
     ensures { Alone K }
-{
-    0
-}
+{}
 
 /// What `wrap` is refused by, and the number of the second row.
-pub fn wrap_answers<K>() -> u8
+pub fn wrap_answers<K>()
     ensures { Answers K }
-{
-    0
-}
+{}

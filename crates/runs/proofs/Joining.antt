@@ -35,17 +35,15 @@ module _ (f : List ℕ → ℕ) where
   single (suc n) [] l p e = absurd (omega arith)
   single (suc n) (b ∷ t) l p e =
       let k : f (b ∷ t) - 1 ≡ length t = omega arith in
-      ap (λ j. (b ∷ take j t) ∷ cut f n (drop j t)) k
-      ∙ ap (λ u. (b ∷ u) ∷ cut f n (drop (length t) t)) (take_all (length t) t (omega arith))
-      ∙ ap (λ u. (b ∷ t) ∷ u) (ap (cut f n) (drop_all (length t) t (omega arith)) ∙ nil n)
+      rw (k, take_all (length t) t (omega arith), drop_all (length t) t (omega arith), nil n) refl
 
 back : (n b : ℕ) (t : List ℕ) → 0 < n → drop n (b ∷ t) ≡ drop (n - 1) t
 back zero b t l = absurd (omega arith)
-back (suc n) b t l = let e : suc n - 1 ≡ n = omega arith in rw e
+back (suc n) b t l = grind arith
 
 front : (n b : ℕ) (t : List ℕ) → 0 < n → take n (b ∷ t) ≡ b ∷ take (n - 1) t
 front zero b t l = absurd (omega arith)
-front (suc n) b t l = let e : suc n - 1 ≡ n = omega arith in rw e
+front (suc n) b t l = grind arith
 
 module _ (p : Splits) where
   joining : (m n : ℕ) (t q : List ℕ) → length t ≤ m → length t < n → p.good t ≡ true → p.good q ≡ true → 0 < length q → p.first q ≡ length q
@@ -66,24 +64,14 @@ module _ (p : Splits) where
       let a2 : fuses_last p.first (cut p.first m (drop j t)) q ≡ false = skip p.first (b ∷ take j t) (cut p.first m (drop j t)) q (filled p.first m (drop j t) (omega arith) (omega arith)) a in
       let gr : p.good (drop j t) ≡ true = ap p.good (sym (back (p.first (b ∷ t)) b t f0)) ∙ p.rest (b ∷ t) gt in
       let r = joining m n (drop j t) q (omega arith) (omega arith) gr gq lq fq a2 in
-      ap (λ i. (b ∷ take i (t ++ q)) ∷ cut p.first n (drop i (t ++ q))) fe
-      ∙ ap (λ u. (b ∷ u) ∷ cut p.first n (drop j (t ++ q))) (take-append-le j t q jl)
-      ∙ ap (λ u. (b ∷ take j t) ∷ cut p.first n u) (drop-append-le j t q jl)
-      ∙ ap (λ u. (b ∷ take j t) ∷ u) r)
+      rw (fe, take-append-le j t q jl, drop-append-le j t q jl, r) refl)
       (λ (whole : length (b ∷ t) ≤ p.first (b ∷ t)).
       let je : j ≡ length t = omega arith in
       let tk : take j t ≡ t = take_all j t (omega arith) in
       let z : cut p.first m (drop j t) ≡ [] = ap (cut p.first m) (drop_all j t (omega arith)) ∙ nil p.first m in
-      let a1 : fuses_last p.first ((b ∷ take j t) ∷ []) q ≡ false = subst (λ u. fuses_last p.first ((b ∷ take j t) ∷ u) q ≡ false) z a in
-      let a2 : fuses_last p.first ((b ∷ t) ∷ []) q ≡ false = subst (λ u. fuses_last p.first ((b ∷ u) ∷ []) q ≡ false) tk a1 in
-      let a3 : p.first (b ∷ (t ++ q)) ≤ length (b ∷ t) = ltb-false (length (b ∷ t)) (p.first (b ∷ (t ++ q))) a2 in
+      let a3 : p.first (b ∷ (t ++ q)) ≤ length (b ∷ t) = ltb-false (length (b ∷ t)) (p.first (b ∷ (t ++ q))) (rw (z, tk) at a) in
       let fe : p.first (b ∷ (t ++ q)) - 1 ≡ length t = omega arith in
-      ap (λ i. (b ∷ take i (t ++ q)) ∷ cut p.first n (drop i (t ++ q))) fe
-      ∙ ap (λ u. (b ∷ u) ∷ cut p.first n (drop (length t) (t ++ q))) (take_at t q (length t) refl)
-      ∙ ap (λ u. (b ∷ t) ∷ cut p.first n u) (drop_at t q (length t) refl)
-      ∙ ap (λ u. (b ∷ t) ∷ u) (single p.first n q (omega arith) lq fq)
-      ∙ ap (λ u. (b ∷ u) ∷ (q ∷ [])) (sym tk)
-      ∙ ap (λ u. ((b ∷ take j t) ∷ u) ++ (q ∷ [])) (sym z))
+      rw (z, tk, fe, take_at t q (length t) refl, drop_at t q (length t) refl, single p.first n q (omega arith) lq fq) refl)
       (cases_lt (p.first (b ∷ t)) (length (b ∷ t)))
 
   -- a piece that does not fuse with the last one is one more
@@ -121,10 +109,7 @@ module _ (p : Splits) where
         again (b ∷ q) u n e =
             let j : p.first (b ∷ (q ++ u)) - 1 ≡ length q = omega arith in
             let la = length-append q u in
-            ap (λ i. (b ∷ take i (q ++ u)) ∷ cut p.first (length (q ++ u)) (drop i (q ++ u))) j
-            ∙ ap (λ v. (b ∷ v) ∷ cut p.first (length (q ++ u)) (drop (length q) (q ++ u))) (take_at q u (length q) refl)
-            ∙ ap (λ v. (b ∷ q) ∷ cut p.first (length (q ++ u)) v) (drop_at q u (length q) refl)
-            ∙ ap (λ v. (b ∷ q) ∷ v) (cut_fuel p.first (length (q ++ u)) (length u) u (omega arith) (omega arith))
+            rw (j, take_at q u (length q) refl, drop_at q u (length q) refl, cut_fuel p.first (length (q ++ u)) (length u) u (omega arith) (omega arith)) refl
 
   rest_one : (q : List ℕ) → p.good q ≡ true → Rest (q ∷ [])
   rest_one q g = record { good = p.empty; split = refl; last = g; whole = append-nil q }

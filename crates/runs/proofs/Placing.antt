@@ -1,31 +1,22 @@
 -- A piece from any place in a text, and the runs behind a cell.
-use Rattle.std.proofs.Common.{◌≡◌, ℕ, zero, suc, ◌+◌, ◌-◌, ◌<◌, ◌≤◌, min, max, Bool, false, cond, ltb, List, [], ◌∷◌, map, length, get_or, take, drop, Some, None, sym, refl, ap, ◌∙◌, ⊎_elim, arith}
-use Rattle.std.proofs.lemmas.List.{drop_more, drop-drop, drop_all, length-drop, take_all}
-use Rattle.std.specs.List.{slice_get}
-use Rattle.std.proofs.lemmas.Bool.{cond-true, cond-false, lt-ltb, le-ltb, cases_lt}
+use Rattle.std.proofs.Common.{◌≡◌, ℕ, zero, suc, ◌+◌, ◌-◌, ◌<◌, ◌≤◌, Bool, false, cond, ltb, List, [], ◌∷◌, length, get_or, take, drop, Ok, sym, refl, ap, ◌∙◌, subst, arith}
+use Rattle.std.proofs.lemmas.List.{drop_more, drop_all, length-drop, take_all}
+use Rattle.std.specs.Prelude.{vec_items}
+use Rattle.std.proofs.lemmas.Bool.Decides.{nat_tests}
 use Rattle.splitters.specs.Pieces.{pieces}
-use Rattle.splitters.specs.Reading.{step}
-use Rattle.splitters.proofs.Cutting.{pieces_more, pieces_none}
-use Rattle.cells.specs.Cells.{Shown}
+use Rattle.splitters.specs.Splits.{Splits}
+use Rattle.splitters.proofs.Cutting.{pieces_none}
 use Rattle.cells.specs.Cleaning.{clean}
-use Rattle.cells.specs.Words.{made}
-use Rattle.rows.specs.Spread.{Placed, further, placed}
+use Rattle.cells.specs.Words.{Text, made}
+use Rattle.runs.specs.declared.memory.Memory.{Memory}
+use Rattle.runs.specs.declared.place.Place.{Place}
 use Rattle.runs.specs.declared.run.Run.{Run}
+use Rattle.runs.specs.Bits.{bits_of}
 use Rattle.runs.specs.Dressing.{width_by, shows, dress, last_piece}
 use Rattle.runs.specs.Runs.{run, past, begun}
+use Rattle.runs.specs.Sounds.{left_at}
 use Rattle.runs.proofs.Decoding.{dress_far}
 use Rattle.runs.proofs.Joining.{filled}
-
--- a piece that begins at b, of length n by the splitter, ends at r
-pub piece_step : (f : List ℕ → ℕ) (t : List ℕ) (b n r : ℕ) → b < length t → n ≡ f (drop b t) → r ≡ b + min (length t - b) (max 1 n)
-    → pieces f (drop b t) ≡ take (r - b) (drop b t) ∷ pieces f (drop r t)
-piece_step f t b n r h e d =
-    let l : length (drop b t) ≡ length t - b = length-drop b t in
-    let s : step f (drop b t) ≡ r - b = omega (arith, e) in
-    let m : b + (r - b) ≡ r = omega arith in
-    pieces_more f (drop b t) (omega arith)
-    ∙ ap (λ (j : ℕ). take j (drop b t) ∷ pieces f (drop j (drop b t))) s
-    ∙ ap (λ (u : List ℕ). take (r - b) (drop b t) ∷ pieces f u) (drop-drop (r - b) b t ∙ ap (λ (j : ℕ). drop j t) m)
 
 module _ {A : Type 0} where
   here : (rs : List (Run A)) (i : ℕ) (r : Run A) → i < length rs → r ≡ get_or rs i r → drop i rs ≡ r ∷ drop (i + 1) rs
@@ -34,18 +25,10 @@ module _ {A : Type 0} where
   pub run_here : (l i : ℕ) (rs : List (Run A)) (r : Run A) → i < length rs → r ≡ get_or rs i r → begun l (drop i rs) ≡ run l r.attrs ∷ drop (i + 1) rs
   run_here l i rs r h e = ap (begun l) (here rs i r h e)
 
-  pub run_whole : (i : ℕ) (rs : List (Run A)) (r : Run A) → i < length rs → r ≡ get_or rs i r → begun r.cells (drop i rs) ≡ drop i rs
-  run_whole i rs r h e = ap (begun r.cells) (here rs i r h e) ∙ sym (here rs i r h e)
-
   pub past_leaves : (l i : ℕ) (rs : List (Run A)) → i < length rs → l ≤ 1 → past (begun l (drop i rs)) ≡ drop (i + 1) rs
   past_leaves l i [] h g = absurd (omega arith)
-  past_leaves l zero (r ∷ rs) h g = cond-false (ltb 1 l) _ _ (le-ltb 1 l g)
-  past_leaves l (suc i) (r ∷ rs) h g =
-      let e : suc i + 1 ≡ suc (i + 1) = omega arith in
-      past_leaves l i rs (omega arith) g ∙ ap (λ (n : ℕ). drop n (r ∷ rs)) (sym e)
-
-  pub begun_none : (i n : ℕ) (rs : List (Run A)) → length rs ≤ i → begun n (drop i rs) ≡ drop i rs
-  begun_none i n rs h = ap (begun n) (drop_all i rs h) ∙ sym (drop_all i rs h)
+  past_leaves l zero (r ∷ rs) h g = grind (arith, nat_tests)
+  past_leaves l (suc i) (r ∷ rs) h g = let e : suc i + 1 ≡ suc (i + 1) = omega arith in rw e (past_leaves l i rs (omega arith) g)
 
   -- nothing is left where no piece or no run is
   pub dress_none : (bits : ℕ → Bool) (ps : List (List ℕ)) (x l : ℕ) (rs : List (Run A)) (i : ℕ) → length rs ≤ i → dress bits ps x (begun l (drop i rs)) ≡ []
@@ -53,7 +36,7 @@ module _ {A : Type 0} where
   dress_none bits (p ∷ ps) x l rs i h = ap (λ v. dress bits (p ∷ ps) x (begun l v)) (drop_all i rs h)
 
   -- a reader's step with what code found: where the piece ends, the bit, the run, the next column, and the runs left
-  pub step_shows : (f : List ℕ → ℕ) (bits : ℕ → Bool) (t : List ℕ) (b x i l e w y : ℕ) (q : List ℕ) (rs us : List (Run A)) (r : Run A)
+  step_shows : (f : List ℕ → ℕ) (bits : ℕ → Bool) (t : List ℕ) (b x i l e w y : ℕ) (q : List ℕ) (rs us : List (Run A)) (r : Run A)
       → ((k : ℕ) → 4096 ≤ k → bits k ≡ false)
       → pieces f (drop b t) ≡ q ∷ pieces f (drop e t) → i < length rs → r ≡ get_or rs i r → w ≡ width_by (bits x)
       → y ≡ cond (ltb x 4096) (x + w) x → us ≡ past (begun l (drop i rs))
@@ -61,41 +44,32 @@ module _ {A : Type 0} where
   step_shows f bits t b x i l e w y q rs us r far s h d ew ey eu =
       let here : begun l (drop i rs) ≡ run l r.attrs ∷ drop (i + 1) rs = run_here l i rs r h d in
       let next : dress bits (pieces f (drop e t)) (x + w) us ≡ dress bits (pieces f (drop e t)) y us =
-      ⊎_elim
-      (λ (n : x < 4096). ap (λ (z : ℕ). dress bits (pieces f (drop e t)) z us) (sym (ey ∙ cond-true (ltb x 4096) _ _ (lt-ltb x 4096 n))))
-      (λ (n : 4096 ≤ x).
-      let yx : y ≡ x = ey ∙ cond-false (ltb x 4096) _ _ (le-ltb x 4096 n) in
-      dress_far bits far (pieces f (drop e t)) (x + w) y us (omega arith) (omega arith))
-      (cases_lt x 4096) in
-      ap (λ ps. dress bits ps x (begun l (drop i rs))) s
-      ∙ ap (dress bits (q ∷ pieces f (drop e t)) x) here
-      ∙ ap (λ (z : ℕ). shows (made (clean q) z) r.attrs (dress bits (pieces f (drop e t)) (x + z) (past (run l r.attrs ∷ drop (i + 1) rs)))) (sym ew)
-      ∙ ap (λ (v : List (Run A)). shows (made (clean q) w) r.attrs (dress bits (pieces f (drop e t)) (x + w) v)) (ap past (sym here) ∙ sym eu)
-      ∙ ap (λ (v : List (Shown A)). shows (made (clean q) w) r.attrs v) next
+      grind (arith, nat_tests, dress_far bits far (pieces f (drop e t)) (x + w) y us) in
+      let u : us ≡ past (run l r.attrs ∷ drop (i + 1) rs) = eu ∙ ap past here in
+      rw (s, here, ← ew, ← u, next) refl
 
-  -- ---- the n-th cell
-  further_further : (a b : ℕ) (ps : List (Placed A)) → map (further a) (map (further b) ps) ≡ map (further (a + b)) ps
-  further_further a b [] = refl
-  further_further a b (q ∷ ps) =
-      let e : a + (b + q.column) ≡ a + b + q.column = omega arith in
-      ap (λ (n : ℕ). record { column = n; cell = q.cell } ∷ map (further a) (map (further b) ps)) e ∙ ap (λ us. further (a + b) q ∷ us) (further_further a b ps)
-
-  pub further_none : (ps : List (Placed A)) → map (further 0) ps ≡ ps
-  further_none [] = refl
-  further_none (q ∷ ps) =
-      let e : 0 + q.column ≡ q.column = omega arith in
-      ap (λ (n : ℕ). record { column = n; cell = q.cell } ∷ map (further 0) ps) e ∙ ap (λ us. q ∷ us) (further_none ps)
-
-  pub nth_more : (cs ds : List (Shown A)) (c : Shown A) (col m : ℕ) → cs ≡ c ∷ ds → slice_get (map (further col) (placed cs)) (suc m) ≡ slice_get (map (further (col + c.width)) (placed ds)) m
-  nth_more cs ds c col m e = ap (λ u. slice_get (map (further col) (placed u)) (suc m)) e ∙ ap (λ u. slice_get u m) (further_further col c.width (placed ds))
-
-  pub nth_here : (cs ds : List (Shown A)) (c : Shown A) (col : ℕ) → cs ≡ c ∷ ds → slice_get (map (further col) (placed cs)) 0 ≡ Some (record { column = col; cell = c })
-  nth_here cs ds c col e =
-      let z : col + 0 ≡ col = omega arith in
-      ap (λ u. slice_get (map (further col) (placed u)) 0) e ∙ ap (λ (n : ℕ). Some (record { column = n; cell = c })) z
-
-  pub nth_none : (cs : List (Shown A)) (col m : ℕ) → cs ≡ [] → slice_get (map (further col) (placed cs)) m ≡ None
-  nth_none cs col m e = ap (λ u. slice_get (map (further col) (placed u)) m) e
+  -- the same at a memory: the cell, and what is left behind it
+  pub stepped : (p : Splits) {s m : Memory A} (at b : Place) (r : Run A) {t u : List ℕ} {rs : List (Run A)} {e w : ℕ} {on : Bool} {v : Text}
+      → s ≡ m → ((k : ℕ) → 4096 ≤ k → bits_of s.wide k ≡ false)
+      → t ≡ vec_items s.text → pieces p.first (drop at.byte t) ≡ take (e - at.byte) (drop at.byte t) ∷ pieces p.first (drop e t)
+      → u ≡ vec_items s.text → made (clean (take (e - at.byte) (drop at.byte u))) w ≡ Ok v
+      → rs ≡ vec_items s.runs → at.run < length rs → r ≡ get_or rs at.run r
+      → on ≡ bits_of s.wide at.column → w ≡ width_by on
+      → b.byte ≡ e → b.column ≡ cond (ltb at.column 4096) (at.column + w) at.column
+      → begun b.left (drop b.run (vec_items s.runs)) ≡ past (begun at.left (drop at.run (vec_items s.runs)))
+      → left_at p m at ≡ record { text = v.text; width = v.width; attrs = r.attrs } ∷ left_at p m b
+  stepped p {s} {m} at b r {t} {u} {rs} {e} {w} {on} {v} es far et sp eu en er l lr eon ew eb ec ers =
+      let f = p.first in
+      let ts = vec_items s.text in
+      let left = begun b.left (drop b.run (vec_items s.runs)) in
+      rw (← es) (
+      step_shows f (bits_of s.wide) ts at.byte at.column at.run at.left e w b.column (take (e - at.byte) (drop at.byte ts)) (vec_items s.runs) left r far
+      (subst (λ (x : List ℕ). pieces f (drop at.byte x) ≡ take (e - at.byte) (drop at.byte x) ∷ pieces f (drop e x)) et sp)
+      (subst (λ (x : List (Run A)). at.run < length x) er l) (subst (λ (x : List (Run A)). r ≡ get_or x at.run r) er lr)
+      (ew ∙ ap width_by eon) ec ers
+      ∙ ap (λ o. shows o r.attrs (dress (bits_of s.wide) (pieces f (drop e ts)) b.column left))
+      (subst (λ (x : List ℕ). made (clean (take (e - at.byte) (drop at.byte x))) w ≡ Ok v) eu en)
+      ∙ ap (λ (j : ℕ). record { text = v.text; width = v.width; attrs = r.attrs } ∷ dress (bits_of s.wide) (pieces f (drop j ts)) b.column left) (sym eb))
 
 -- ---- the last piece
 last_skip : (q : List ℕ) (ps : List (List ℕ)) → 0 < length ps → last_piece (q ∷ ps) ≡ last_piece ps

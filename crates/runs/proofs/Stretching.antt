@@ -1,8 +1,8 @@
 -- Runs of cells with equal attributes.
-use Rattle.std.specs.Prelude.{◌≡◌, ℕ, zero, suc, ◌+◌, ◌-◌, ◌<◌, ◌≤◌, true, false, cond, not, ◌&&◌, List, [], ◌∷◌, ◌++◌, map, length, take, replicate, ◌==◌, nat_lt, slice_index_or, slice_set, refl}
-use Rattle.std.proofs.Common.{sym, ap, ◌∙◌, subst, ⊎_elim, arith}
-use Rattle.std.proofs.lemmas.List.{length-set, length_push}
-use Rattle.std.proofs.lemmas.Bool.{cases_Bool, lt-ltb, le-ltb, cond-true, cond-false, true≢false, false≢true, and_parts, and_from, eq-eqb, eqb-true}
+use Rattle.std.specs.Prelude.{◌≡◌, ℕ, zero, suc, ◌+◌, ◌-◌, ◌<◌, ◌≤◌, true, false, cond, not, List, [], ◌∷◌, ◌++◌, map, length, take, slice_index_or, slice_set, refl}
+use Rattle.std.proofs.Common.{sym, ap, ◌∙◌, subst, arith}
+use Rattle.std.proofs.lemmas.List.{length-set, length_push, set-get_or}
+use Rattle.std.proofs.lemmas.Bool.Decides.{nat_tests}
 use Rattle.cells.specs.Cells.{Shown}
 use Rattle.cells.specs.Kinds.{Kind}
 use Rattle.rows.specs.Packing.{runs_needed}
@@ -18,29 +18,17 @@ module _ {A : Type 0} where
   -- ---- two lists of runs that a test finds to be one
   pub alike : (k : Kind A) (rs ss : List (Run A)) → same_runs k rs ss ≡ true → rs ≡ ss
   alike k [] [] e = refl
-  alike k [] (s ∷ ss) e = absurd (false≢true e)
-  alike k (r ∷ rs) [] e = absurd (false≢true e)
-  alike k (r ∷ rs) (s ∷ ss) e =
-      let a = and_parts (r.cells == s.cells) (k.same r.attrs s.attrs && same_runs k rs ss) e in
-      let b = and_parts (k.same r.attrs s.attrs) (same_runs k rs ss) a.1 in
-      ap (λ n. run n r.attrs ∷ rs) (eqb-true r.cells s.cells a.0)
-      ∙ ap (λ u. run s.cells u ∷ rs) (k.identical r.attrs s.attrs b.0) ∙ ap (λ us. s ∷ us) (alike k rs ss b.1)
+  alike k [] (s ∷ ss) e = grind arith
+  alike k (r ∷ rs) [] e = grind arith
+  alike k (r ∷ rs) (s ∷ ss) e = grind (arith, nat_tests, k.identical r.attrs s.attrs, alike k rs ss)
 
   pub alike_self : (k : Kind A) (rs : List (Run A)) → same_runs k rs rs ≡ true
   alike_self k [] = refl
-  alike_self k (r ∷ rs) = and_from _ _ (eq-eqb r.cells r.cells refl) (and_from _ _ (k.reflexive r.attrs) (alike_self k rs))
+  alike_self k (r ∷ rs) = grind (arith, nat_tests, k.reflexive r.attrs, alike_self k rs)
 
   -- ---- any two kinds of one type agree
   same_any : (k j : Kind A) (a b : A) → k.same a b ≡ j.same a b
-  same_any k j a b =
-      ⊎_elim
-      (λ (e : k.same a b ≡ true). e ∙ sym (ap (λ u. j.same a u) (sym (k.identical a b e)) ∙ j.reflexive a))
-      (λ (e : k.same a b ≡ false).
-      ⊎_elim
-      (λ (d : j.same a b ≡ true). absurd (true≢false (sym (ap (λ u. k.same a u) (sym (j.identical a b d)) ∙ k.reflexive a) ∙ e)))
-      (λ (d : j.same a b ≡ false). e ∙ sym d)
-      (cases_Bool (j.same a b)))
-      (cases_Bool (k.same a b))
+  same_any k j a b = grind (arith, k.identical a b, j.identical a b, k.reflexive a, j.reflexive a)
 
   join_any : (k j : Kind A) (a : A) (rs : List (Run A)) → join k a rs ≡ join j a rs
   join_any k j a [] = refl
@@ -57,64 +45,22 @@ module _ {A : Type 0} where
   module _ (k : Kind A) where
     join_filled : (a : A) (rs : List (Run A)) → Filled rs → Filled (join k a rs)
     join_filled a [] f = (omega arith, tt)
-    join_filled a (r ∷ rs) f =
-        elim (k.same a r.attrs) as (λ v. Filled (cond v (run (1 + r.cells) a ∷ rs) (run 1 a ∷ (r ∷ rs))))
-        [ true ↦ (omega arith, f.1) | false ↦ (omega arith, f) ]
+    join_filled a (r ∷ rs) f = grind arith
 
     pub stretches_filled : (cs : List (Shown A)) → Filled (stretches k cs)
     stretches_filled [] = tt
     stretches_filled (c ∷ cs) = join_filled c.attrs (stretches k cs) (stretches_filled cs)
 
     -- ---- the first cell taken off again
-    past_like : (a : A) (r : Run A) (rs : List (Run A)) → a ≡ r.attrs → 0 < r.cells → past (run (1 + r.cells) a ∷ rs) ≡ r ∷ rs
-    past_like a r rs e l =
-        let z : 1 + r.cells - 1 ≡ r.cells = omega arith in
-        cond-true (nat_lt 1 (1 + r.cells)) _ _ (lt-ltb 1 (1 + r.cells) (omega arith))
-        ∙ ap (λ n. run n a ∷ rs) z ∙ ap (λ b. run r.cells b ∷ rs) e
-
     pub past_join : (a : A) (rs : List (Run A)) → Filled rs → past (join k a rs) ≡ rs
     past_join a [] f = refl
-    past_join a (r ∷ rs) f =
-        ⊎_elim
-        (λ (e : k.same a r.attrs ≡ true). ap past (cond-true (k.same a r.attrs) _ _ e) ∙ past_like a r rs (k.identical a r.attrs e) f.0)
-        (λ (e : k.same a r.attrs ≡ false). ap past (cond-false (k.same a r.attrs) _ _ e))
-        (cases_Bool (k.same a r.attrs))
+    past_join a (r ∷ rs) f = grind (arith, nat_tests, k.identical a r.attrs)
 
     -- ---- one more cell behind
-    extend_cons : (r s : Run A) (rs : List (Run A)) (a d : A) → extend k (join k d (r ∷ s ∷ rs)) a ≡ join k d (r ∷ extend k (s ∷ rs) a)
-    extend_cons r s rs a d =
-        elim (k.same d r.attrs) as (λ v. extend k (cond v (run (1 + r.cells) d ∷ (s ∷ rs)) (run 1 d ∷ (r ∷ s ∷ rs))) a
-        ≡ cond v (run (1 + r.cells) d ∷ extend k (s ∷ rs) a) (run 1 d ∷ (r ∷ extend k (s ∷ rs) a)))
-        [ true ↦ refl | false ↦ refl ]
-
-    extend_one : (r : Run A) (a d : A) → extend k (join k d (r ∷ [])) a ≡ join k d (extend k (r ∷ []) a)
-    extend_one r a d =
-        ⊎_elim
-        (λ (e : k.same d r.attrs ≡ true).
-        let q : d ≡ r.attrs = k.identical d r.attrs e in
-        let z : 1 + r.cells + 1 ≡ 1 + (r.cells + 1) = omega arith in
-        ap (λ rs. extend k rs a) (cond-true (k.same d r.attrs) _ _ e)
-        ∙ ap (λ u. cond (k.same u a) (run (1 + r.cells + 1) d ∷ []) (run (1 + r.cells) d ∷ (run 1 a ∷ []))) q
-        ∙ ap (λ n. cond (k.same r.attrs a) (run n d ∷ []) (run (1 + r.cells) d ∷ (run 1 a ∷ []))) z
-        ∙ elim (k.same r.attrs a) as (λ v. cond v (run (1 + (r.cells + 1)) d ∷ []) (run (1 + r.cells) d ∷ (run 1 a ∷ []))
-        ≡ join k d (cond v (run (r.cells + 1) r.attrs ∷ []) (r ∷ (run 1 a ∷ []))))
-        [ true ↦ sym (cond-true (k.same d r.attrs) _ _ e) | false ↦ sym (cond-true (k.same d r.attrs) _ _ e) ])
-        (λ (e : k.same d r.attrs ≡ false).
-        ap (λ rs. extend k rs a) (cond-false (k.same d r.attrs) _ _ e)
-        ∙ elim (k.same r.attrs a) as (λ v. run 1 d ∷ cond v (run (r.cells + 1) r.attrs ∷ []) (r ∷ (run 1 a ∷ []))
-        ≡ join k d (cond v (run (r.cells + 1) r.attrs ∷ []) (r ∷ (run 1 a ∷ []))))
-        [ true ↦ sym (cond-false (k.same d r.attrs) _ _ e) | false ↦ sym (cond-false (k.same d r.attrs) _ _ e) ])
-        (cases_Bool (k.same d r.attrs))
-
     extend_join : (rs : List (Run A)) (a d : A) → extend k (join k d rs) a ≡ join k d (extend k rs a)
-    extend_join [] a d =
-        ⊎_elim
-        (λ (e : k.same d a ≡ true).
-        cond-true (k.same d a) _ _ e ∙ sym (cond-true (k.same d a) _ _ e))
-        (λ (e : k.same d a ≡ false). cond-false (k.same d a) _ _ e ∙ sym (cond-false (k.same d a) _ _ e))
-        (cases_Bool (k.same d a))
-    extend_join (r ∷ []) a d = extend_one r a d
-    extend_join (r ∷ s ∷ rs) a d = extend_cons r s rs a d
+    extend_join [] a d = grind (arith, nat_tests)
+    extend_join (r ∷ []) a d = grind (arith, nat_tests, k.identical d r.attrs)
+    extend_join (r ∷ s ∷ rs) a d = grind (arith, nat_tests)
 
     pub stretches_push : (cs : List (Shown A)) (c : Shown A) → stretches k (cs ++ (c ∷ [])) ≡ extend k (stretches k cs) c.attrs
     stretches_push [] c = refl
@@ -124,8 +70,7 @@ module _ {A : Type 0} where
     pub extend_like : (rs : List (Run A)) (n : ℕ) (r : Run A) (a : A) → length rs ≡ suc n → r ≡ slice_index_or rs n r → k.same r.attrs a ≡ true
         → slice_set rs n (run (r.cells + 1) r.attrs) ≡ extend k rs a
     extend_like [] n r a l e h = absurd (omega arith)
-    extend_like (s ∷ []) zero r a l e h =
-        sym (cond-true (k.same r.attrs a) (run (r.cells + 1) r.attrs ∷ []) (r ∷ (run 1 a ∷ [])) h) ∙ ap (λ (u : Run A). extend k (u ∷ []) a) e
+    extend_like (s ∷ []) zero r a l e h = grind arith
     extend_like (s ∷ []) (suc n) r a l e h = absurd (omega arith)
     extend_like (s ∷ t ∷ ts) zero r a l e h = absurd (omega arith)
     extend_like (s ∷ t ∷ ts) (suc n) r a l e h = ap (λ u. s ∷ u) (extend_like (t ∷ ts) n r a (omega arith) e h)
@@ -133,9 +78,7 @@ module _ {A : Type 0} where
     pub extend_unlike : (rs : List (Run A)) (n : ℕ) (r : Run A) (a : A) → length rs ≡ suc n → r ≡ slice_index_or rs n r → k.same r.attrs a ≡ false
         → rs ++ (run 1 a ∷ []) ≡ extend k rs a
     extend_unlike [] n r a l e h = absurd (omega arith)
-    extend_unlike (s ∷ []) zero r a l e h =
-        ap (λ (u : Run A). u ∷ (run 1 a ∷ [])) (sym e)
-        ∙ sym (cond-false (k.same r.attrs a) (run (r.cells + 1) r.attrs ∷ []) (r ∷ (run 1 a ∷ [])) h) ∙ ap (λ (u : Run A). extend k (u ∷ []) a) e
+    extend_unlike (s ∷ []) zero r a l e h = grind arith
     extend_unlike (s ∷ []) (suc n) r a l e h = absurd (omega arith)
     extend_unlike (s ∷ t ∷ ts) zero r a l e h = absurd (omega arith)
     extend_unlike (s ∷ t ∷ ts) (suc n) r a l e h = ap (λ u. s ∷ u) (extend_unlike (t ∷ ts) n r a (omega arith) e h)
@@ -147,10 +90,7 @@ module _ {A : Type 0} where
     pub extend_length : (rs : List (Run A)) (n : ℕ) (r : Run A) (a : A) → length rs ≡ suc n → r ≡ slice_index_or rs n r
         → length (extend k rs a) ≡ cond (not (k.same r.attrs a)) (length rs + 1) (length rs)
     extend_length rs n r a l e =
-        ⊎_elim
-        (λ (h : k.same r.attrs a ≡ true). ap length (sym (extend_like rs n r a l e h)) ∙ length-set rs n (run (r.cells + 1) r.attrs) ∙ ap (λ v. cond (not v) (length rs + 1) (length rs)) (sym h))
-        (λ (h : k.same r.attrs a ≡ false). ap length (sym (extend_unlike rs n r a l e h)) ∙ length_push rs (run 1 a) ∙ ap (λ v. cond (not v) (length rs + 1) (length rs)) (sym h))
-        (cases_Bool (k.same r.attrs a))
+        grind (arith, extend_like rs n r a l e, extend_unlike rs n r a l e, length-set rs n (run (r.cells + 1) r.attrs), length_push rs (run 1 a))
 
     -- ---- the last cell taken off again
     shrink_cons : (r : Run A) (rs : List (Run A)) → 0 < length rs → shrink (r ∷ rs) ≡ r ∷ shrink rs
@@ -159,16 +99,11 @@ module _ {A : Type 0} where
 
     extend_some : (rs : List (Run A)) (a : A) → 0 < length (extend k rs a)
     extend_some [] a = omega arith
-    extend_some (r ∷ []) a =
-        elim (k.same r.attrs a) as (λ v. 0 < length (cond v (run (r.cells + 1) r.attrs ∷ []) (r ∷ (run 1 a ∷ []))))
-        [ true ↦ omega arith | false ↦ omega arith ]
+    extend_some (r ∷ []) a = grind arith
     extend_some (r ∷ s ∷ rs) a = omega arith
 
     shrink_one : (r : Run A) (a : A) → 0 < r.cells → shrink (extend k (r ∷ []) a) ≡ r ∷ []
-    shrink_one r a l =
-        let z : r.cells + 1 - 1 ≡ r.cells = omega arith in
-        elim (k.same r.attrs a) as (λ v. shrink (cond v (run (r.cells + 1) r.attrs ∷ []) (r ∷ (run 1 a ∷ []))) ≡ r ∷ [])
-        [ true ↦ cond-true (nat_lt 1 (r.cells + 1)) _ _ (lt-ltb 1 (r.cells + 1) (omega arith)) ∙ ap (λ n. run n r.attrs ∷ []) z | false ↦ refl ]
+    shrink_one r a l = grind (arith, nat_tests)
 
     pub shrink_extend : (rs : List (Run A)) (a : A) → Filled rs → shrink (extend k rs a) ≡ rs
     shrink_extend [] a f = refl
@@ -178,21 +113,8 @@ module _ {A : Type 0} where
     -- ---- neighbours are unlike, and the attributes are those of the cells
     join_apart : (a : A) (rs : List (Run A)) → Apart k rs → Apart k (join k a rs)
     join_apart a [] f = omega arith
-    join_apart a (r ∷ []) f =
-        ⊎_elim
-        (λ (e : k.same a r.attrs ≡ true). subst (Apart k) (sym (cond-true (k.same a r.attrs) (run (1 + r.cells) a ∷ []) (run 1 a ∷ (r ∷ [])) e)) (more r.cells))
-        (λ (e : k.same a r.attrs ≡ false). subst (Apart k) (sym (cond-false (k.same a r.attrs) (run (1 + r.cells) a ∷ []) (run 1 a ∷ (r ∷ [])) e)) (omega arith, e, f))
-        (cases_Bool (k.same a r.attrs)) where
-          more : (n : ℕ) → 0 < 1 + n
-          more n = omega arith
-    join_apart a (r ∷ (s ∷ rs)) f =
-        ⊎_elim
-        (λ (e : k.same a r.attrs ≡ true).
-        subst (Apart k) (sym (cond-true (k.same a r.attrs) (run (1 + r.cells) a ∷ (s ∷ rs)) (run 1 a ∷ (r ∷ (s ∷ rs))) e))
-        (omega arith, ap (λ (u : A). k.same u s.attrs) (k.identical a r.attrs e) ∙ f.1, f.2))
-        (λ (e : k.same a r.attrs ≡ false).
-        subst (Apart k) (sym (cond-false (k.same a r.attrs) (run (1 + r.cells) a ∷ (s ∷ rs)) (run 1 a ∷ (r ∷ (s ∷ rs))) e)) (omega arith, e, f))
-        (cases_Bool (k.same a r.attrs))
+    join_apart a (r ∷ []) f = grind (arith, nat_tests)
+    join_apart a (r ∷ (s ∷ rs)) f = grind (arith, nat_tests, k.identical a r.attrs)
 
     pub stretches_apart : (cs : List (Shown A)) → Apart k (stretches k cs)
     stretches_apart [] = tt
@@ -200,14 +122,7 @@ module _ {A : Type 0} where
 
     join_out : (a : A) (rs : List (Run A)) → spread_out (join k a rs) ≡ a ∷ spread_out rs
     join_out a [] = refl
-    join_out a (r ∷ rs) =
-        ⊎_elim
-        (λ (e : k.same a r.attrs ≡ true).
-        let n : 1 + r.cells ≡ suc r.cells = omega arith in
-        ap spread_out (cond-true (k.same a r.attrs) (run (1 + r.cells) a ∷ rs) (run 1 a ∷ (r ∷ rs)) e)
-        ∙ ap (λ (j : ℕ). replicate j a ++ spread_out rs) n ∙ ap (λ (u : A). a ∷ (replicate r.cells u ++ spread_out rs)) (k.identical a r.attrs e))
-        (λ (e : k.same a r.attrs ≡ false). ap spread_out (cond-false (k.same a r.attrs) (run (1 + r.cells) a ∷ rs) (run 1 a ∷ (r ∷ rs)) e))
-        (cases_Bool (k.same a r.attrs))
+    join_out a (r ∷ rs) = grind (arith, nat_tests, k.identical a r.attrs)
 
     pub stretches_out : (cs : List (Shown A)) → spread_out (stretches k cs) ≡ map (λ c. c.attrs) cs
     stretches_out [] = refl
@@ -216,9 +131,7 @@ module _ {A : Type 0} where
     -- ---- how many cells, and how many runs
     total_join : (a : A) (rs : List (Run A)) → total (join k a rs) ≡ 1 + total rs
     total_join a [] = refl
-    total_join a (r ∷ rs) =
-        elim (k.same a r.attrs) as (λ v. total (cond v (run (1 + r.cells) a ∷ rs) (run 1 a ∷ (r ∷ rs))) ≡ 1 + (r.cells + total rs))
-        [ true ↦ omega arith | false ↦ refl ]
+    total_join a (r ∷ rs) = grind arith
 
     pub total_stretches : (cs : List (Shown A)) → total (stretches k cs) ≡ length cs
     total_stretches [] = refl
@@ -226,16 +139,8 @@ module _ {A : Type 0} where
 
     -- the first of the runs has the first cell's attributes
     joined_length : (a d : A) (rs : List (Run A)) → length (join k a (join k d rs)) ≡ cond (k.same a d) 0 1 + length (join k d rs)
-    joined_length a d [] =
-        elim (k.same a d) as (λ v. length (cond v (run (1 + 1) a ∷ []) (run 1 a ∷ (run 1 d ∷ []))) ≡ cond v 0 1 + 1)
-        [ true ↦ refl | false ↦ refl ]
-    joined_length a d (r ∷ rs) =
-        elim (k.same d r.attrs) as (λ v. length (join k a (cond v (run (1 + r.cells) d ∷ rs) (run 1 d ∷ (r ∷ rs)))) ≡ cond (k.same a d) 0 1 + length (cond v (run (1 + r.cells) d ∷ rs) (run 1 d ∷ (r ∷ rs)))) [
-          | true ↦ elim (k.same a d) as (λ v. length (cond v (run (1 + (1 + r.cells)) a ∷ rs) (run 1 a ∷ (run (1 + r.cells) d ∷ rs))) ≡ cond v 0 1 + suc (length rs))
-              [ true ↦ omega arith | false ↦ omega arith ]
-          | false ↦ elim (k.same a d) as (λ v. length (cond v (run (1 + 1) a ∷ (r ∷ rs)) (run 1 a ∷ (run 1 d ∷ (r ∷ rs)))) ≡ cond v 0 1 + suc (suc (length rs)))
-              [ true ↦ omega arith | false ↦ omega arith ]
-        ]
+    joined_length a d [] = grind arith
+    joined_length a d (r ∷ rs) = grind arith
 
     pub runs_length : (cs : List (Shown A)) → runs_needed k cs ≡ length (stretches k cs)
     runs_length [] = refl
@@ -244,6 +149,10 @@ module _ {A : Type 0} where
         let e = joined_length c.attrs d.attrs (stretches k cs) in
         let f = runs_length (d ∷ cs) in
         omega arith
+
+  -- a run that is written back as it was
+  pub written_back : (rs us : List (Run A)) (n : ℕ) (r : Run A) → r ≡ slice_index_or rs n r → us ≡ slice_set rs n r → us ≡ rs
+  written_back rs us n r e d = d ∙ ap (slice_set rs n) e ∙ set-get_or rs n r
 
   pub total_part : (rs : List (Run A)) (n : ℕ) (r : Run A) → n < length rs → r ≡ slice_index_or rs n r → r.cells ≤ total rs
   total_part [] n r l e = absurd (omega arith)
@@ -254,20 +163,18 @@ module _ {A : Type 0} where
   pub shrink_more : (rs : List (Run A)) (n : ℕ) (r : Run A) → length rs ≡ suc n → r ≡ slice_index_or rs n r → 1 < r.cells
       → slice_set rs n (run (r.cells - 1) r.attrs) ≡ shrink rs
   shrink_more [] n r l e h = absurd (omega arith)
-  shrink_more (s ∷ []) zero r l e h =
-      sym (cond-true (nat_lt 1 r.cells) (run (r.cells - 1) r.attrs ∷ []) [] (lt-ltb 1 r.cells h)) ∙ ap (λ (u : Run A). shrink (u ∷ [])) e
+  shrink_more (s ∷ []) zero r l e h = grind (arith, nat_tests)
   shrink_more (s ∷ []) (suc n) r l e h = absurd (omega arith)
   shrink_more (s ∷ t ∷ ts) zero r l e h = absurd (omega arith)
   shrink_more (s ∷ t ∷ ts) (suc n) r l e h = ap (λ u. s ∷ u) (shrink_more (t ∷ ts) n r (omega arith) e h)
 
   pub shrink_last : (rs : List (Run A)) (n : ℕ) (r : Run A) → length rs ≡ suc n → r ≡ slice_index_or rs n r → r.cells ≤ 1 → take n rs ≡ shrink rs
   shrink_last [] n r l e h = absurd (omega arith)
-  shrink_last (s ∷ []) zero r l e h =
-      sym (cond-false (nat_lt 1 r.cells) (run (r.cells - 1) r.attrs ∷ []) [] (le-ltb 1 r.cells h)) ∙ ap (λ (u : Run A). shrink (u ∷ [])) e
+  shrink_last (s ∷ []) zero r l e h = grind (arith, nat_tests)
   shrink_last (s ∷ []) (suc n) r l e h = absurd (omega arith)
   shrink_last (s ∷ t ∷ ts) zero r l e h = absurd (omega arith)
   shrink_last (s ∷ t ∷ ts) (suc n) r l e h = ap (λ u. s ∷ u) (shrink_last (t ∷ ts) n r (omega arith) e h)
 
-  pub shrink_none : (rs : List (Run A)) → length rs ≡ 0 → shrink rs ≡ rs
+  pub shrink_none : (rs : List (Run A)) → length rs ≡ 0 → [] ≡ shrink rs
   shrink_none [] l = refl
   shrink_none (r ∷ rs) l = absurd (omega arith)

@@ -4,6 +4,7 @@
 -- dress      the cells of pieces from a column on: each piece cleaned, its width by the bit of its column, its attributes by the first run;
 --            they end where the pieces or the runs end, or where a piece is no cell's text
 -- texts      the texts of cells
+-- text_at    the text of a cell, or the empty text of none
 -- last_text  the text of the last cell, or the empty text
 -- last_piece the last of pieces, or the empty text
 use Rattle.std.specs.Prelude.{ℕ, ◌+◌, Bool, cond, List, [], ◌∷◌, map, Some, None, Ok, Err, Option, Result}

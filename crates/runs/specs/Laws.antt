@@ -1,12 +1,14 @@
--- What the implementations cite where they keep the law of a store on widths.
--- Worded        a cell's word holds its text and width
--- Word          what is then true of the cell
+-- What the run store cites where it keeps the law of a store on widths.
+-- unmade        an answer that is a value is not refused, and it is that value
+-- Worded        a cell's text and width are those of a word that can be made
+-- Word          what is then true of the text and the width
+-- word          a word that was made has such a text and width
 -- all_sized     each cell takes one column or two
--- dress_worded  every cell that is read from pieces, bits and runs is such
+-- dress_worded  every cell that is read from pieces, bits and runs is worded
 -- sound_sized   so each cell that a run store shows takes one column or two
 use Rattle.std.specs.Prelude.{◌≡◌, ℕ, ◌+◌, ◌<◌, ◌≤◌, Bool, false, List, [], ◌∷◌, length, vec_items, None, Some, Ok, Err, Option, Result, refl}
 use Rattle.std.specs.List.{AllByRecursion}
-use Rattle.std.proofs.Common.{sym, ap, ◌∙◌, subst, arith}
+use Rattle.std.proofs.Common.{sym, ap, ◌∙◌, subst}
 use Rattle.std.proofs.lemmas.Bool.{ltb-false}
 use Rattle.cells.specs.Cells.{Shown}
 use Rattle.cells.specs.Cleaning.{clean}
@@ -18,16 +20,16 @@ use Rattle.splitters.proofs.Making.{clean_twice}
 use Rattle.splitters.specs.Pieces.{pieces}
 use Rattle.splitters.specs.Splits.{Splits}
 use Rattle.rows.specs.Bounds.{Sized}
-use Rattle.runs.specs.declared.clusterline.ClusteredLine.{ClusteredLine}
+use Rattle.runs.specs.declared.memory.Memory.{Memory}
 use Rattle.runs.specs.declared.run.Run.{Run}
 use Rattle.runs.specs.Bits.{bits_of}
 use Rattle.runs.specs.Dressing.{width_by, shows, dress}
 use Rattle.runs.specs.Runs.{past}
 use Rattle.runs.specs.Sounds.{cells}
 
-pub unmade : (o : Option Refusal) (t u : Text) → verdict o t ≡ Ok u → (o ≡ None) × (t ≡ u)
+pub unmade : {X : Type 0} (o : Option Refusal) (t u : X) → verdict o t ≡ Ok u → (o ≡ None) × (t ≡ u)
 unmade None t u e = (refl, cc)
-unmade (Some why) t u e = let z : ◌≡◌ {A = ℕ} 0 1 = cc in absurd (omega arith)
+unmade (Some why) t u e = absurd cc
 
 module _ {A : Type 0} where
   -- a word holds the cell's text and width
@@ -70,6 +72,6 @@ module _ {A : Type 0} where
       shows_worded p (width_by (bits x)) (made (clean p) (width_by (bits x))) r.attrs (dress bits ps (x + width_by (bits x)) (past (r ∷ rs))) refl
       (dress_worded bits ps (x + width_by (bits x)) (past (r ∷ rs)))
 
-  pub sound_sized : (p : Splits) (s : ClusteredLine A) → AllByRecursion Sized (cells p s)
+  pub sound_sized : (p : Splits) (s : Memory A) → AllByRecursion Sized (cells p s)
   sound_sized p s =
       all_sized (cells p s) (dress_worded (bits_of s.wide) (pieces p.first (vec_items s.text)) 0 (vec_items s.runs))

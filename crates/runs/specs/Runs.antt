@@ -1,5 +1,6 @@
 -- Runs of cells with equal attributes.
 -- run        so many cells with these attributes
+-- join       runs with one more cell in front of them
 -- stretches  the runs of cells: neighbours with the same attributes are one
 -- extend     runs with one more cell behind them
 -- shrink     runs without their last cell
@@ -17,7 +18,6 @@ use Rattle.runs.specs.declared.run.Run.{Run}
 abbrev pub run : {A : Type 0} → ℕ → A → Run A
 run n a = record { cells = n; attrs = a }
 
--- one more cell in front of runs
 abbrev pub join : {A : Type 0} → Kind A → A → List (Run A) → List (Run A)
 join k a [] = run 1 a ∷ []
 join k a (r ∷ rs) = cond (k.same a r.attrs) (run (1 + r.cells) a ∷ rs) (run 1 a ∷ (r ∷ rs))

@@ -23,13 +23,11 @@ pub(crate) fn bit(words: &[u64; 64], x: usize) -> bool
     ensures value { result ≡ bits_of words.now x }
     ensures bound { (k : ℕ) → 4096 ≤ k → bits_of words.now k ≡ false }
 {
-    if x >= 4096 {
-        return false;
-    }
-    (words[x / 64] >> (x % 64)) & 1 == 1
+    words.get(x / 64).is_some_and(|w| (w >> (x % 64)) & 1 == 1)
 }
 
 /// Sets the bit of a column, or clears it.
+#[tactic(auto, using(crate::proofs::Flipping::flipped, crate::proofs::Flipping::counted))]
 pub(crate) fn mark(words: &mut [u64; 64], x: usize, on: bool)
     requires { x < 4096 }
     ensures bits { (k : ℕ) → bits_of words.new k ≡ (if nat_eq k x then on else bits_of words.old k) }
@@ -43,12 +41,7 @@ pub(crate) fn mark(words: &mut [u64; 64], x: usize, on: bool)
 
 /// How many bits are set: the columns beyond one for each cell.
 pub(crate) fn wide_columns(words: &[u64; 64]) -> usize
-    ensures value { result ≡ ones_in words.now }
-    ensures bound { result ≤ 4096 }
+    ensures { result ≡ ones_in words.now }
 {
-    let mut n: usize = 0;
-    for w in words {
-        n += w.count_ones() as usize;
-    }
-    n
+    words.iter().map(|w| w.count_ones() as usize).sum()
 }

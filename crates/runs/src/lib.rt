@@ -4,10 +4,9 @@
 pub mod account;
 pub mod ascii;
 mod bits;
-mod clusterline;
+pub mod clusterline;
 mod clusters;
-mod dropping;
-mod emptying;
+mod memory;
 pub mod place;
 mod reading;
 pub mod run;

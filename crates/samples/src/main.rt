@@ -15,34 +15,25 @@ use std::io;
 use utf8::Utf8;
 
 /// For every kind of attributes `K`, with the UTF-8 splitter.
-pub fn samples_in_utf8<K>() -> u8
+pub fn samples_in_utf8<K>()
     ensures rows { (k : Kind K) → Samples k utf8_splits }
     ensures text { (k : Kind K) → from_text utf8_splits (room 80) (0x61 ∷ 0xe4 ∷ 0xb8 ∷ 0xad ∷ 0x62 ∷ []) k.blank 9 ≡ gives (a_wide_b k) }
-{
-    0
-}
+{}
 
 /// Says of a text whether it makes a cell.
 fn told(rt: &HostRuntime, name: &str, text: &[u8]) -> io::Result<()> {
-    match new_grapheme::<Utf8, StripAttributes>(
-        text,
-        None,
-        <StripAttributes as Attributes>::blank(),
-    ) {
-        Ok(cell) => {
-            let bytes = cell.text.len();
-            let columns = cell.text.width();
-            println!(rt; "{name}: a cell of {bytes} bytes, {columns} columns")
-        }
-        Err(why) => {
-            let number = why.number();
-            println!(rt; "{name}: refused {number}")
-        }
+    match new_grapheme::<Utf8, _>(text, None, StripAttributes::blank()) {
+        Ok(cell) => println!(rt;
+            "{name}: a cell of {} bytes, {} columns",
+            cell.text.len(),
+            cell.text.width()
+        ),
+        Err(why) => println!(rt; "{name}: refused {}", why.number()),
     }
 }
 
 fn main(rt: HostRuntime) -> io::Result<()> {
-    let _ = samples_in_utf8::<StripAttributes>();
+    samples_in_utf8::<StripAttributes>();
     told(&rt, "e and three U+0301", b"e\xcc\x81\xcc\x81\xcc\x81")?;
     told(
         &rt,

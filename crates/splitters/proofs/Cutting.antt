@@ -1,29 +1,11 @@
 -- A text cut into pieces.
-use Rattle.std.proofs.Common.{◌≡◌, ℕ, zero, suc, ◌+◌, ◌-◌, ◌<◌, ◌≤◌, min, true, List, [], ◌∷◌, ◌++◌, length, take, drop, sym, refl, ap, ◌∙◌, ⊎_elim, arith}
-use Rattle.std.proofs.lemmas.List.{length-drop, length-take-le, drop_all, take_all, take-append-drop, drop-drop}
-use Rattle.std.proofs.lemmas.Bool.{cases_lt}
-use Rattle.cells.specs.Cleaning.{unclean}
-use Rattle.splitters.specs.Pieces.{cut, pieces, flat, Firsts, placed}
-use Rattle.splitters.specs.Reading.{step, left, Read}
+use Rattle.std.proofs.Common.{◌≡◌, ℕ, zero, suc, ◌+◌, ◌-◌, ◌<◌, ◌≤◌, min, true, List, [], ◌∷◌, ◌++◌, map, length, take, drop, sym, refl, ap, subst, ◌∙◌, arith}
+use Rattle.std.proofs.lemmas.List.{length-drop, length-take-le, take-append-drop, take_min, drop_min, drop-drop}
+use Rattle.std.proofs.lemmas.List.Elements.{All-nil, All-cons}
+use Rattle.std.specs.List.{All}
+use Rattle.splitters.specs.Pieces.{Part, placed, parts, cut, pieces, flat, Firsts}
+use Rattle.splitters.specs.Reading.{step, Alone, Read}
 use Rattle.splitters.specs.Splits.{Splits}
-
-pub take_min : {X : Type 0} (k : ℕ) (t : List X) → take (min (length t) k) t ≡ take k t
-take_min k t =
-    ⊎_elim
-    (λ (h : k < length t). let e : min (length t) k ≡ k = omega arith in ap (λ (j : ℕ). take j t) e)
-    (λ (h : length t ≤ k).
-    let e : min (length t) k ≡ length t = omega arith in
-    ap (λ (j : ℕ). take j t) e ∙ take_all (length t) t (omega arith) ∙ sym (take_all k t h))
-    (cases_lt k (length t))
-
-pub drop_min : {X : Type 0} (k : ℕ) (t : List X) → drop (min (length t) k) t ≡ drop k t
-drop_min k t =
-    ⊎_elim
-    (λ (h : k < length t). let e : min (length t) k ≡ k = omega arith in ap (λ (j : ℕ). drop j t) e)
-    (λ (h : length t ≤ k).
-    let e : min (length t) k ≡ length t = omega arith in
-    ap (λ (j : ℕ). drop j t) e ∙ drop_all (length t) t (omega arith) ∙ sym (drop_all k t h))
-    (cases_lt k (length t))
 
 module _ (f : List ℕ → ℕ) where
   cut_none : (n : ℕ) → cut f n [] ≡ []
@@ -54,7 +36,7 @@ module _ (f : List ℕ → ℕ) where
   flat_pieces t = flat_cut (length t) t (omega arith)
 
   -- one more piece
-  cons_step : (b : ℕ) (t : List ℕ) → step f (b ∷ t) ≡ suc (min (length t) (f (b ∷ t) - 1))
+  cons_step : (b : ℕ) (t : List ℕ) → step f (b ∷ t) ≡ suc (min (f (b ∷ t) - 1) (length t))
   cons_step b t = omega arith
 
   pub pieces_more : (t : List ℕ) → 0 < length t → pieces f t ≡ take (step f t) t ∷ pieces f (drop (step f t) t)
@@ -62,7 +44,7 @@ module _ (f : List ℕ → ℕ) where
   pieces_more (b ∷ t) h =
       let k : ℕ = f (b ∷ t) - 1 in
       let e : length (drop k t) ≡ length t - k = length-drop k t in
-      let s : step f (b ∷ t) ≡ suc (min (length t) k) = cons_step b t in
+      let s : step f (b ∷ t) ≡ suc (min k (length t)) = cons_step b t in
       let p : take (step f (b ∷ t)) (b ∷ t) ≡ b ∷ take k t = ap (λ (j : ℕ). take j (b ∷ t)) s ∙ ap (λ u. b ∷ u) (take_min k t) in
       let q : drop (step f (b ∷ t)) (b ∷ t) ≡ drop k t = ap (λ (j : ℕ). drop j (b ∷ t)) s ∙ drop_min k t in
       ap (λ ts. (b ∷ take k t) ∷ ts) (cut_fuel (length t) (length (drop k t)) (drop k t) (omega arith) (omega arith))
@@ -72,26 +54,27 @@ module _ (f : List ℕ → ℕ) where
   pieces_none [] h = refl
   pieces_none (b ∷ t) h = absurd (omega arith)
 
-  -- what a reader at a place gives, and what is left behind it
-  pub left_more : (t : List ℕ) (at : ℕ) → at < length t
-      → left f t at ≡ record { at = at; bytes = take (step f (drop at t)) (drop at t); control = unclean (take (step f (drop at t)) (drop at t)) } ∷ left f t (at + step f (drop at t))
-  left_more t at h =
-      let n : ℕ = step f (drop at t) in
+  -- the piece that begins at a place in a text, and what is left behind it
+  pub pieces_at : (t : List ℕ) (at end : ℕ) → at < length t → end ≡ at + step f (drop at t)
+      → pieces f (drop at t) ≡ take (end - at) (drop at t) ∷ pieces f (drop end t)
+  pieces_at t at end h e =
       let d : length (drop at t) ≡ length t - at = length-drop at t in
-      let l : length (take n (drop at t)) ≡ n = length-take-le n (drop at t) (omega arith) in
-      let e : drop n (drop at t) ≡ drop (at + n) t = drop-drop n at t in
-      ap (placed at) (pieces_more (drop at t) (omega arith))
-      ∙ ap (λ (k : ℕ). record { at = at; bytes = take n (drop at t); control = unclean (take n (drop at t)) } ∷ placed (at + k) (pieces f (drop n (drop at t)))) l
-      ∙ ap (λ (u : List ℕ). record { at = at; bytes = take n (drop at t); control = unclean (take n (drop at t)) } ∷ placed (at + n) (pieces f u)) e
+      let s : step f (drop at t) ≡ end - at = omega arith in
+      let j : at + (end - at) ≡ end = omega arith in
+      pieces_more (drop at t) (omega arith)
+      ∙ ap (λ (n : ℕ). take n (drop at t) ∷ pieces f (drop n (drop at t))) s
+      ∙ ap (λ (u : List ℕ). take (end - at) (drop at t) ∷ pieces f u) (drop-drop (end - at) at t ∙ ap (λ (i : ℕ). drop i t) j)
 
-  pub left_none : (t : List ℕ) (at : ℕ) → length t ≤ at → left f t at ≡ []
-  left_none t at h = ap (λ (u : List ℕ). placed at (pieces f u)) (drop_all at t h)
+-- the bytes of a text's parts are its pieces
+placed_bytes : (at : ℕ) (ps : List (List ℕ)) → map (λ x. x.bytes) (placed at ps) ≡ ps
+placed_bytes at [] = refl
+placed_bytes at (q ∷ ps) = ap (λ qs. q ∷ qs) (placed_bytes (at + length q) ps)
 
-  pub step_ends : (t : List ℕ) (at : ℕ) → at < length t → (at < at + step f (drop at t)) × (at + step f (drop at t) ≤ length t)
-  step_ends t at h = let d : length (drop at t) ≡ length t - at = length-drop at t in (omega arith, omega arith)
+pub parts_bytes : (f : List ℕ → ℕ) (at : ℕ) (t : List ℕ) → map (λ x. x.bytes) (parts f at t) ≡ pieces f t
+parts_bytes f at t = placed_bytes at (pieces f t)
 
 module _ (p : Splits) where
-  pub first_bounds : (b : ℕ) (t : List ℕ) → p.good (b ∷ t) ≡ true → (0 < p.first (b ∷ t)) × (p.first (b ∷ t) ≤ suc (length t))
+  first_bounds : (b : ℕ) (t : List ℕ) → p.good (b ∷ t) ≡ true → (0 < p.first (b ∷ t)) × (p.first (b ∷ t) ≤ suc (length t))
   first_bounds b t g =
       let s = p.some (b ∷ t) g (omega arith) in
       let w = p.within (b ∷ t) [] g p.empty (omega arith) in
@@ -115,3 +98,36 @@ module _ (p : Splits) where
 
   pub pieces_read : (t : List ℕ) → p.good t ≡ true → Read p.first t
   pieces_read t g = record { whole = flat_pieces p.first t; in_turn = cut_firsts (length t) t (omega arith) g }
+
+  -- the first piece of a good text, alone
+  first_alone : (t : List ℕ) → p.good t ≡ true → 0 < length t → Alone p (take (p.first t) t)
+  first_alone t g h =
+      let s = p.some t g h in
+      let w = p.within t [] g p.empty h in
+      let m : length (take (p.first t) t) ≡ p.first t = length-take-le (p.first t) t (omega arith) in
+      let f = p.within (take (p.first t) t) (drop (p.first t) t) (p.piece t g) (p.rest t g) (omega arith) in
+      let e : p.first (take (p.first t) t ++ drop (p.first t) t) ≡ p.first t = ap p.first (take-append-drop (p.first t) t) in
+      record { good = p.piece t g; one = omega arith; some = omega arith }
+
+  cut_alone : (n : ℕ) (t : List ℕ) → length t ≤ n → p.good t ≡ true → All (Alone p) (cut p.first n t)
+  cut_alone zero t l g = All-nil (Alone p)
+  cut_alone (suc n) [] l g = All-nil (Alone p)
+  cut_alone (suc n) (b ∷ t) l g =
+      let k : ℕ = p.first (b ∷ t) - 1 in
+      let h = first_bounds b t g in
+      let f : suc k ≡ p.first (b ∷ t) = omega arith in
+      let d : length (drop k t) ≡ length t - k = length-drop k t in
+      let e : b ∷ take k t ≡ take (p.first (b ∷ t)) (b ∷ t) = ap (λ (j : ℕ). take j (b ∷ t)) f in
+      All-cons (Alone p) (b ∷ take k t) (cut p.first n (drop k t))
+      (subst (Alone p) (sym e) (first_alone (b ∷ t) g (omega arith)))
+      (cut_alone n (drop k t) (omega arith) (ap (λ (j : ℕ). p.good (drop j (b ∷ t))) f ∙ p.rest (b ∷ t) g))
+
+  -- each piece of a good text, alone
+  pub pieces_alone : (t : List ℕ) → p.good t ≡ true → All (Alone p) (pieces p.first t)
+  pieces_alone t g = cut_alone (length t) t (omega arith) g
+
+  -- the next piece of a reader, alone
+  pub next_alone : (at : ℕ) (t : List ℕ) (x : Part) (xs : List Part) → p.good t ≡ true → parts p.first at t ≡ x ∷ xs → Alone p x.bytes
+  next_alone at t x xs g e =
+      let q : pieces p.first t ≡ x.bytes ∷ map (λ y. y.bytes) xs = sym (parts_bytes p.first at t) ∙ ap (map (λ y. y.bytes)) e in
+      subst (All (Alone p)) q (pieces_alone t g) 0 x.bytes (omega arith)

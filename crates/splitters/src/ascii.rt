@@ -10,12 +10,7 @@ impl Splitter for Ascii {
     ghost splits = { ascii };
 
     fn is_good(text: &[u8]) -> bool {
-        for b in text {
-            if *b >= 0x80 {
-                return false;
-            }
-        }
-        true
+        text.iter().all(|b| *b < 0x80)
     }
 
     fn first_len(text: &[u8]) -> usize {

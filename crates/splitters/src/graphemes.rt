@@ -14,10 +14,7 @@ use cells::teenystring::TeenyString;
 fn columns_of<P: Splitter>(text: &[u8], width: Option<usize>) -> usize
     ensures { result ≡ cell_width P.Splitter.splits text.now width }
 {
-    match width {
-        Some(given) => given,
-        None => P::width_of(text).columns(),
-    }
+    width.unwrap_or_else(|| P::width_of(text).columns())
 }
 
 /// The cell of a text, of the width given or else the splitter's: 1, 2, 3 or 4, the smallest that fits.

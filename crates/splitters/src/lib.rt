@@ -3,6 +3,7 @@
 
 pub mod ascii;
 pub mod columns;
+pub mod ends;
 pub mod graphemes;
 pub mod piece;
 pub mod pieces;

@@ -1,6 +1,6 @@
 //! How wide a piece is.
-#[derive(Clone, Copy)]
+#[derive(Clone, Copy, Debug, PartialEq, Eq)]
 pub enum Width {
-    Narrow,
-    Wide,
+    Narrow = 1,
+    Wide = 2,
 }

@@ -1,7 +1,6 @@
 -- Cells read from a store.
 -- found  a cell that was found with its column, by what it means
 -- Step   a reader's step: nothing is left, or the cell given and what is left behind it
--- given  what a reader had to give, by what it gave and what is left then
 use Rattle.std.specs.Prelude.{◌≡◌, List, [], ◌∷◌, Some, None, Option}
 use Rattle.cells.specs.Cells.{Shown, meaning}
 use Rattle.cells.specs.declared.cell.Cell.{Cell}
@@ -15,7 +14,3 @@ found (Some c) = Some (record { column = c.column; cell = meaning c.cell })
 abbrev pub Step : {A P : Type 0} → (P → List (Shown A)) → P → Option (Cell A × P) → Type 0
 Step left p None = left p ≡ []
 Step left p (Some s) = left p ≡ meaning s.0 ∷ left s.1
-
-abbrev pub given : {A : Type 0} → Option (Cell A) → List (Shown A) → List (Shown A)
-given None cells = []
-given (Some c) cells = meaning c ∷ cells

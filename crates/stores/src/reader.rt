@@ -1,6 +1,7 @@
-//! A reader of a store's cells, asked for the next one.
+//! A reader of a store's cells: an iterator over them.
 ghost use Rattle.std.specs.Prelude.{◌≡◌};
-ghost use Rattle.stores.specs.Reading.{given};
+ghost use Rattle.std.specs.Iterator.{YieldsFirstBy, item_count};
+ghost use Rattle.cells.specs.Cells.{meaning};
 
 use crate::store::Store;
 use cells::cell::Cell;
@@ -19,19 +20,19 @@ impl<'a, S: Store> Reader<'a, S> {
         let place = store.start();
         Reader { store, place }
     }
+}
+
+impl<'a, S: Store> Iterator for Reader<'a, S> {
+    type Item = Cell<S::Attr>;
+
+    ghost next_gives = { λ r given t. YieldsFirstBy meaning (λ r. S.Store.left r.store.now r.place) r given t × (t.store.now ≡ r.store.now) };
+
+    ghost remaining = { item_count (λ r. S.Store.left r.store.now r.place) };
 
     /// The next cell, or none where all are read.
-    pub fn next(&mut self) -> Option<Cell<S::Attr>>
-        ensures cell { S.Store.left self.old.store.now self.old.place
-            ≡ given result (S.Store.left self.new.store.now self.new.place) }
-        ensures store { self.new.store.now ≡ self.old.store.now }
-    {
-        match self.store.next_cell(self.place) {
-            Some((c, place)) => {
-                self.place = place;
-                Some(c)
-            }
-            None => None,
-        }
+    fn next(&mut self) -> Option<Cell<S::Attr>> {
+        let (c, place) = self.store.next_cell(self.place)?;
+        self.place = place;
+        Some(c)
     }
 }

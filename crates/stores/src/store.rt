@@ -46,7 +46,18 @@ pub trait Store {
 
     /// The n-th cell, from 0, with its column.
     fn nth_cell(&self, n: usize) -> Option<CellAt<Self::Attr>>
-        ensures { found result ≡ slice_get (placed (row self.now).cells) n };
+        ensures { found result ≡ slice_get (placed (row self.now).cells) n }
+    {
+        let mut at = self.start();
+        let mut column: usize = 0;
+        for _ in 0..n {
+            let (c, behind) = self.next_cell(at)?;
+            column += c.text.width();
+            at = behind;
+        }
+        let (cell, _) = self.next_cell(at)?;
+        Some(CellAt { column, cell })
+    }
 
     /// The place of a reader that has all the cells to give.
     fn start(&self) -> Self::Place

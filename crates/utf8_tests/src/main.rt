@@ -6,8 +6,11 @@ ghost use Rattle.std.specs.Prelude.{◌<◌};
 
 use splitters::splitter::Splitter;
 use std::alloc::{AllocError, Global};
+use std::fmt::Write;
 use std::io;
+use utf8::Utf8;
 
+// The library's digits take small letters too; here 0 to 9 and A to F are digits, and any other byte counts 0.
 fn digit(b: u8) -> u8
     ensures { result < 16 }
 {
@@ -20,33 +23,29 @@ fn digit(b: u8) -> u8
 
 /// The bytes that pairs of hexadecimal digits stand for.
 fn bytes_of(heap: Global, line: &[u8]) -> Result<Vec<u8>, AllocError> {
-    let mut bytes = Vec::new(heap);
-    for pair in line.chunks_exact(2) {
-        bytes.push(digit(pair[0]) * 16 + digit(pair[1]))?;
-    }
-    Ok(bytes)
+    line.chunks_exact(2)
+        .map(|pair| digit(pair[0]) * 16 + digit(pair[1]))
+        .collect(heap)
 }
 
 /// The pieces of a text, up to where no character begins.
 fn pieces(heap: Global, text: &[u8]) -> Result<String, AllocError> {
     let mut told = String::new(heap);
-    let mut at = 0;
-    while at < text.len() {
-        let rest = &text[at..];
-        let n = <utf8::Utf8 as Splitter>::first_len(rest);
-        if n == 0 || n > rest.len() {
-            return Ok(told);
-        }
-        let width = <utf8::Utf8 as Splitter>::width_of(&rest[0..n]).columns();
-        told.push_str(format!(in heap; " {n}/{width}")?.as_str())?;
-        at += n;
+    let mut rest = text;
+    while let Some((piece, behind)) = rest.split_at_checked(Utf8::first_len(rest))
+        && !piece.is_empty()
+    {
+        let n = piece.len();
+        let width = Utf8::width_of(piece).columns();
+        write!(told, " {n}/{width}")?;
+        rest = behind;
     }
     Ok(told)
 }
 
 fn told(heap: Global, line: &str) -> Result<String, AllocError> {
     let text = bytes_of(heap, line.as_bytes())?;
-    let verdict = if <utf8::Utf8 as Splitter>::is_good(text.as_slice()) {
+    let verdict = if Utf8::is_good(text.as_slice()) {
         "good"
     } else {
         "bad"

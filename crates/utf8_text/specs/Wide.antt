@@ -1,8 +1,9 @@
 -- Wide code points.
 -- wide_ranges  the first and the last code point of each wide range, in order
--- wide         whether a code point lies in one of them;  in_some  the same for any list of ranges
+-- wide         whether a code point lies in one of them
 -- begins_wide  whether the first code point of a text is wide; false where the text begins with no character
-use Rattle.std.specs.Prelude.{ℕ, Bool, false, ◌||◌, List, [], ◌∷◌}
+use Rattle.std.specs.Prelude.{ℕ, Bool, false, List, [], ◌∷◌}
+use Rattle.std.specs.List.{list_any}
 use Rattle.utf8_text.specs.Reading.{within, points}
 
 abbrev pub wide_ranges : List (ℕ × ℕ)
@@ -20,12 +21,8 @@ wide_ranges =
     ∷ (0x30000, 0x3FFFD)
     ∷ []
 
-abbrev pub in_some : List (ℕ × ℕ) → ℕ → Bool
-in_some [] c = false
-in_some (r ∷ rs) c = within r.0 r.1 c || in_some rs c
-
 abbrev pub wide : ℕ → Bool
-wide c = in_some wide_ranges c
+wide c = list_any (λ r. within r.0 r.1 c) wide_ranges
 
 abbrev pub first_wide : List ℕ → Bool
 first_wide [] = false

@@ -1,39 +1,23 @@
 //! The first piece: CR with LF, any other control alone, any other code point with all marks directly behind it.
 ghost use Rattle.std.specs.Prelude.{◌≡◌};
 ghost use Rattle.utf8_text.specs.Reading.{points};
-ghost use Rattle.utf8_text.specs.Pieces.{leading_lf, leading_marks, attached, sizes, first_len};
+ghost use Rattle.utf8_text.specs.Pieces.{attached, sizes, leading_marks, first_len};
 
-use crate::kinds::{is_control, is_mark};
-use crate::point::first_point;
+use crate::kinds::{is_control, is_mark, size};
+use crate::point::Points;
 
-fn line_feed_len(text: &[u8]) -> usize
-    ensures { result ≡ sizes (leading_lf (points text.now)) }
+fn marks_len(behind: Points<'_>) -> usize
+    ensures { result ≡ sizes (leading_marks (points behind.entry.0.now)) }
 {
-    match text {
-        [0x0a, ..] => 1,
-        _ => 0,
-    }
-}
-
-fn marks_len(text: &[u8]) -> usize
-    ensures { result ≡ sizes (leading_marks (points text.now)) }
-{
-    let mut at = 0;
-    while let Some((c, n)) = first_point(&text[at..]) {
-        if !is_mark(c) {
-            return at;
-        }
-        at += n;
-    }
-    at
+    behind.take_while(|c| is_mark(*c)).map(size).sum()
 }
 
 /// How many bytes belong to a piece behind its first code point.
-fn attached_len(c: u32, behind: &[u8]) -> usize
-    ensures { result ≡ sizes (attached c (points behind.now)) }
+fn attached_len(c: u32, mut behind: Points<'_>) -> usize
+    ensures { result ≡ sizes (attached c (points behind.entry.0.now)) }
 {
     if c == 0x0d {
-        line_feed_len(behind)
+        usize::from(behind.next() == Some(0x0a))
     } else if is_control(c) {
         0
     } else {
@@ -42,11 +26,13 @@ fn attached_len(c: u32, behind: &[u8]) -> usize
 }
 
 /// How many bytes the first piece of a text has; 0 where the text begins with no character.
+#[tactic(auto, using(crate::proofs::Points::piece_fits))]
 pub fn first_len(text: &[u8]) -> usize
     ensures { result ≡ first_len text.now }
 {
-    match first_point(text) {
-        Some((c, n)) => n + attached_len(c, &text[n..]),
-        None => 0,
-    }
+    let mut points = Points(text);
+    let Some(c) = points.next() else {
+        return 0;
+    };
+    size(c) + attached_len(c, points)
 }

@@ -6,13 +6,14 @@ ghost use Rattle.utf8_text.specs.Meaning.{Meaning};
 use crate::state::State;
 
 /// Whether a text is UTF-8: exactly if the grammar of RFC 3629 derives it.
+#[tactic(auto, using(crate::proofs::Steps::passed, crate::proofs::Steps::end_of, crate::proofs::Steps::stuck, crate::proofs::Encoded::meant))]
 pub fn is_utf8(text: &[u8]) -> bool
     ensures value { result ≡ good text.now }
     ensures meaning { Meaning text.now }
 {
     let mut state = State::Start;
-    for b in text {
-        state = match (state, *b) {
+    for &b in text {
+        state = match (state, b) {
             (State::Start, 0x00..=0x7f) => State::Start,
             (State::Start, 0xc2..=0xdf) => State::Tail1,
             (State::Start, 0xe0) => State::AfterE0,
@@ -31,8 +32,5 @@ pub fn is_utf8(text: &[u8]) -> bool
             _ => return false,
         };
     }
-    match state {
-        State::Start => true,
-        _ => false,
-    }
+    state == State::Start
 }

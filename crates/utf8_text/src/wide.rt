@@ -2,7 +2,7 @@
 ghost use Rattle.std.specs.Prelude.{◌≡◌};
 ghost use Rattle.utf8_text.specs.Wide.{wide, begins_wide};
 
-use crate::point::first_point;
+use crate::point::Points;
 
 /// The first and the last code point of each wide range, in order.
 const WIDE: &[(u32, u32)] = &[
@@ -23,28 +23,13 @@ const WIDE: &[(u32, u32)] = &[
 fn is_wide(c: u32) -> bool
     ensures { result ≡ wide c }
 {
-    let mut low = 0;
-    let mut high = WIDE.len();
-    while low < high {
-        let mid = low + (high - low) / 2;
-        let (first, last) = WIDE[mid];
-        if c < first {
-            high = mid;
-        } else if c > last {
-            low = mid + 1;
-        } else {
-            return true;
-        }
-    }
-    false
+    let at = WIDE.partition_point(|(_, last)| *last < c);
+    WIDE.get(at).is_some_and(|(first, _)| *first <= c)
 }
 
 /// Whether the first code point of a text is wide; not where the text begins with no character.
 pub fn begins_wide(text: &[u8]) -> bool
     ensures { result ≡ begins_wide text.now }
 {
-    match first_point(text) {
-        Some((c, _)) => is_wide(c),
-        None => false,
-    }
+    Points(text).next().is_some_and(is_wide)
 }

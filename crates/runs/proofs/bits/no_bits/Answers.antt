@@ -1,5 +1,5 @@
-use Rattle.runs.proofs.Flipping.{bits_none, ones_none}
+use Rattle.runs.proofs.Flipping.{bits_none}
 use Rattle.runs.proofs.bits.no_bits.Goals as goal
 
-pub returns : goal.returns
-returns c = record { bits = bits_none 64; ones = ones_none 64 }
+pub returns-clause-bits : goal.returns-clause-bits
+returns-clause-bits c = bits_none 64

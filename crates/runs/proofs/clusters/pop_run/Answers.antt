@@ -1,22 +1,19 @@
-use Rattle.std.proofs.Common.{◌-◌, sym, refl, ◌∙◌, arith}
-use Rattle.runs.proofs.Stretching.{shrink_more, shrink_last, shrink_none}
+use Rattle.std.proofs.Common.{◌≡◌, ℕ, ◌-◌, ◌<◌, vec_len, take, refl, ap, ◌∙◌, arith}
+use Rattle.runs.proofs.Stretching.{shrink_last, shrink_none, written_back}
 use Rattle.runs.proofs.clusters.pop_run.Goals as goal
+use Rattle.runs.proofs.clusters.pop_run.Goals.{in_default-via-in-Some+else-last_mut-gt1, in_default-via-in-None-1}
 
-pub returns-then-n-eq0 : goal.returns-then-n-eq0
-returns-then-n-eq0 g c = record { items = sym (shrink_none c.args.runs.now.items (omega arith)); len = omega arith; cap = refl }
-
-pub returns-then-r-gt1 : goal.returns-then-r-gt1
-returns-then-r-gt1 g c =
-    record {
-      items = shrink_more c.args.runs.now.items (c.len-n.result - 1) c.index-r.result.now (omega arith) c.index-r.ensures (omega arith);
-      len = omega arith;
-      cap = refl;
-    }
-
-pub returns : goal.returns
-returns g c =
-    record {
-      items = c.truncate.ensures.items ∙ shrink_last c.args.runs.now.items (c.len-n.result - 1) c.index-r.result.now (omega arith) c.index-r.ensures (omega arith);
-      len = omega arith;
-      cap = c.truncate.ensures.capacity;
-    }
+pub returns-in_default-clause-items : goal.returns-in_default-clause-items
+returns-in_default-clause-items g c =
+    let rs = c.args.runs.now.items in
+    let n = vec_len c.args.runs.now - 1 in
+    elim c.in_default.branch [
+      | in_default-via-in-Some+else-last_mut-gt1 w ↦
+          let l : 0 < vec_len c.args.runs.now = w.in-Some.ensures.variant.0 refl in
+          let e = written_back rs c.in_default.runs.items n w.in-Some.r.now w.in-Some.ensures.value (ap (λ v. v.items) w.runs-is) in
+          c.pop.ensures.rest ∙ ap (take (vec_len c.in_default.runs - 1)) e ∙ ap (λ v. take (vec_len v - 1) rs) w.runs-is
+          ∙ shrink_last rs n w.in-Some.r.now (omega arith) w.in-Some.ensures.value (omega (arith, w.if-last_mut-gt1.false))
+      | in_default-via-in-None-1 w ↦
+          let l : vec_len c.args.runs.now ≡ 0 = grind (arith, c.last_mut.ensures.variant) in
+          c.pop.ensures.rest ∙ ap (λ v. take (vec_len v - 1) v.items) w.runs-is ∙ ap (λ (j : ℕ). take (j - 1) rs) l ∙ shrink_none rs (omega arith)
+    ]

@@ -1,44 +1,47 @@
-use Rattle.std.proofs.Common.{◌≡◌, ◌-◌, [], ◌∷◌, ◌++◌, length, sym, refl, ap, ◌∙◌, arith}
+use Rattle.std.proofs.Common.{◌≡◌, ◌-◌, ◌<◌, [], ◌∷◌, ◌++◌, length, vec_len, vec_capacity, sym, refl, ap, ◌∙◌, arith}
 use Rattle.std.proofs.lemmas.List.{length_push}
 use Rattle.runs.specs.Runs.{run, extend}
-use Rattle.runs.proofs.Stretching.{extend_none, extend_like, extend_unlike, total_part}
+use Rattle.runs.proofs.Stretching.{extend_none, extend_unlike, written_back}
 use Rattle.runs.proofs.clusters.push_run.Goals as goal
-use Rattle.runs.proofs.clusters.push_run.Goals.{then-n-gt0+else-same, else-n-gt0}
-
-pub overflow_add-r : goal.overflow_add-r
-overflow_add-r g c =
-    let t = total_part c.args.runs.now.items (c.len-n.result - 1) c.index.result.now (omega arith) c.index.ensures in
-    omega arith
-
-pub returns-then-same : goal.returns-then-same
-returns-then-same g c =
-    let rs = c.args.runs.now.items in
-    record {
-      items = extend_like g.A.Attributes.kind rs (c.len-n.result - 1) c.index.result.now c.args.attrs.now (omega arith) c.index.ensures (sym c.if-same.ensures);
-      cap = refl;
-    }
+use Rattle.runs.proofs.clusters.push_run.Goals.{in_default-via-in-Some+else-eq, in_default-via-in-None-1}
 
 pub push_reserved-requires : goal.push_reserved-requires
 push_reserved-requires g c =
     let rs = c.args.runs.now.items in
-    let n = c.len-n.result - 1 in
+    let n = vec_len c.args.runs.now - 1 in
     let a = c.args.attrs.now in
-    let e : rs ++ (run 1 a ∷ []) ≡ extend g.A.Attributes.kind rs a =
-    elim c.if-n-gt0.branch [
-      | then-n-gt0+else-same w ↦ extend_unlike g.A.Attributes.kind rs n w.index.result.now a (omega (arith, w.if-n-gt0.true)) w.index.ensures (sym w.same.ensures ∙ w.if-same.false)
-      | else-n-gt0 w ↦ extend_none g.A.Attributes.kind rs a (omega (arith, w.if-n-gt0.false))
+    let k = g.A.Attributes.kind in
+    let e : (c.in_default.runs.items ++ (run 1 a ∷ []) ≡ extend k rs a) × (vec_capacity c.in_default.runs ≡ vec_capacity c.args.runs.now) =
+    elim c.in_default.branch [
+      | in_default-via-in-Some+else-eq w ↦
+          let l : 0 < vec_len c.args.runs.now = w.in-Some.ensures.variant.0 refl in
+          let b = written_back rs c.in_default.runs.items n w.in-Some.r.now w.in-Some.ensures.value (ap (λ v. v.items) w.runs-is) in (
+            ap (λ u. u ++ (run 1 a ∷ [])) b ∙ extend_unlike k rs n w.in-Some.r.now a (omega arith) w.in-Some.ensures.value (sym (g.met.A.Attributes.equal w.in-Some.r.now.attrs a) ∙ sym w.eq.ensures ∙ w.if-eq.false),
+            ap vec_capacity w.runs-is,
+          )
+      | in_default-via-in-None-1 w ↦
+          let l : vec_len c.args.runs.now ≡ 0 = grind (arith, c.last_mut.ensures.variant) in
+          (ap (λ v. v.items ++ (run 1 a ∷ [])) w.runs-is ∙ extend_none k rs a (omega arith), ap vec_capacity w.runs-is)
     ] in
-    let l = sym (length_push rs (run 1 a)) ∙ ap length e in
-    omega arith
+    let l = sym (length_push c.in_default.runs.items (run 1 a)) ∙ ap length e.0 in
+    omega (arith, e.1)
 
-pub returns : goal.returns
-returns g c =
+pub returns-in_default-clause-items : goal.returns-in_default-clause-items
+returns-in_default-clause-items g c =
     let rs = c.args.runs.now.items in
-    let n = c.len-n.result - 1 in
+    let n = vec_len c.args.runs.now - 1 in
     let a = c.args.attrs.now in
-    let e : rs ++ (run 1 a ∷ []) ≡ extend g.A.Attributes.kind rs a =
-    elim c.if-n-gt0.branch [
-      | then-n-gt0+else-same w ↦ extend_unlike g.A.Attributes.kind rs n w.index.result.now a (omega (arith, w.if-n-gt0.true)) w.index.ensures (sym w.same.ensures ∙ w.if-same.false)
-      | else-n-gt0 w ↦ extend_none g.A.Attributes.kind rs a (omega (arith, w.if-n-gt0.false))
+    let k = g.A.Attributes.kind in
+    let e : (c.in_default.runs.items ++ (run 1 a ∷ []) ≡ extend k rs a) × (vec_capacity c.in_default.runs ≡ vec_capacity c.args.runs.now) =
+    elim c.in_default.branch [
+      | in_default-via-in-Some+else-eq w ↦
+          let l : 0 < vec_len c.args.runs.now = w.in-Some.ensures.variant.0 refl in
+          let b = written_back rs c.in_default.runs.items n w.in-Some.r.now w.in-Some.ensures.value (ap (λ v. v.items) w.runs-is) in (
+            ap (λ u. u ++ (run 1 a ∷ [])) b ∙ extend_unlike k rs n w.in-Some.r.now a (omega arith) w.in-Some.ensures.value (sym (g.met.A.Attributes.equal w.in-Some.r.now.attrs a) ∙ sym w.eq.ensures ∙ w.if-eq.false),
+            ap vec_capacity w.runs-is,
+          )
+      | in_default-via-in-None-1 w ↦
+          let l : vec_len c.args.runs.now ≡ 0 = grind (arith, c.last_mut.ensures.variant) in
+          (ap (λ v. v.items ++ (run 1 a ∷ [])) w.runs-is ∙ extend_none k rs a (omega arith), ap vec_capacity w.runs-is)
     ] in
-    record { items = c.push_reserved.ensures.items ∙ e; cap = c.push_reserved.ensures.capacity }
+    c.push_reserved.ensures.items ∙ e.0

@@ -1,43 +1,26 @@
-use Rattle.std.proofs.Common.{drop, sym, ap, ◌∙◌, arith, rules}
-use Rattle.std.proofs.lemmas.List.{take_rest, length-drop, drop-drop}
-use Rattle.utf8_text.specs.Reading.{first_point, points}
-use Rattle.utf8_text.specs.Pieces.{leading_marks, sizes}
-use Rattle.utf8_text.proofs.Points.{read, marks_none, marks_stop, marks_more}
+use Rattle.std.proofs.Common.{[], ◌∙◌, refl, rules, tests, arith}
+use Rattle.std.specs.List.{take_while}
+use Rattle.std.proofs.lemmas.Iterator.{YieldsList-from_map}
+use Rattle.std.proofs.lemmas.Iterator.Consumers.{YieldsList-at, YieldsList-from_first, fits_by_from_yields_list, sum_by_from_yields_List}
+use Rattle.std.proofs.lemmas.Iterator.Search.{YieldsList-from_take_while}
+use Rattle.utf8_text.specs.Reading.{points}
+use Rattle.utf8_text.specs.Pieces.{mark, size}
+use Rattle.utf8_text.proofs.Cuts.{marks_within}
+use Rattle.utf8_text.proofs.Points.{marks_summed, points_fit}
 use Rattle.utf8_text.proofs.piece.marks_len.Goals as goal
 
-pub returns-then-not-is_mark : goal.returns-then-not-is_mark
-returns-then-not-is_mark c =
-    let e = ap first_point (sym (take_rest c.args.text.now c.loop-c.at)) ∙ sym c.in-Some.ensures in
-    let k = sym c.if-not-is_mark.ensures in
-    let s = marks_stop (drop c.loop-c.at c.args.text.now) c.in-Some.c c.in-Some.n e k in
-    omega (arith, c.loop-c.invariant.1)
-
-pub overflow_add-at : goal.overflow_add-at
-overflow_add-at c =
-    let e = ap first_point (sym (take_rest c.args.text.now c.loop-c.at)) ∙ sym c.in-Some.ensures in
-    let r = read (drop c.loop-c.at c.args.text.now) c.in-Some.c c.in-Some.n e in
-    let l = length-drop c.loop-c.at c.args.text.now in
-    search rules
-
-pub loop-c-smaller : goal.loop-c-smaller
-loop-c-smaller c =
-    let e = ap first_point (sym (take_rest c.args.text.now c.loop-c.at)) ∙ sym c.in-Some.ensures in
-    let r = read (drop c.loop-c.at c.args.text.now) c.in-Some.c c.in-Some.n e in
-    let l = length-drop c.loop-c.at c.args.text.now in
-    omega arith
-
-pub loop-c-preserved : goal.loop-c-preserved
-loop-c-preserved c =
-    let e = ap first_point (sym (take_rest c.args.text.now c.loop-c.at)) ∙ sym c.in-Some.ensures in
-    let r = read (drop c.loop-c.at c.args.text.now) c.in-Some.c c.in-Some.n e in
-    let l = length-drop c.loop-c.at c.args.text.now in
-    let k = sym c.if-not-is_mark.ensures in
-    let m = marks_more (drop c.loop-c.at c.args.text.now) c.in-Some.c c.in-Some.n e k in
-    let d = ap (λ x. sizes (leading_marks (points x))) (drop-drop c.in-Some.n c.loop-c.at c.args.text.now) in
-    (omega arith, omega (arith, c.loop-c.invariant.1))
+pub sum-requires-clause-fits : goal.sum-requires-clause-fits
+sum-requires-clause-fits c =
+    let cs = points c.args.behind.0.now in
+    fits_by_from_yields_list size (take_while mark cs) c.map.result _
+    (YieldsList-from_map _ size (YieldsList-at c.map.ensures.source (YieldsList-from_take_while _ mark (YieldsList-at c.take_while.ensures.source (YieldsList-from_first (λ x. x) (λ s. points s.0.now) cs refl))
+    c.take_while.ensures.closure c.take_while.ensures.done (λ x b q k. search (rules, tests)))) c.map.ensures.closure (λ x r q k. search rules))
+    (omega (arith, marks_summed cs, marks_within cs [], points_fit c.args.behind.0.now))
 
 pub returns : goal.returns
 returns c =
-    let e = ap first_point (sym (take_rest c.args.text.now c.loop-c.at)) ∙ sym c.in_default.ensures in
-    let s = marks_none (drop c.loop-c.at c.args.text.now) e in
-    omega (arith, c.loop-c.invariant.1)
+    let cs = points c.args.behind.0.now in
+    sum_by_from_yields_List size (take_while mark cs) c.map.result _ c.sum.ensures.ran
+    (YieldsList-from_map _ size (YieldsList-at c.map.ensures.source (YieldsList-from_take_while _ mark (YieldsList-at c.take_while.ensures.source (YieldsList-from_first (λ x. x) (λ s. points s.0.now) cs refl))
+    c.take_while.ensures.closure c.take_while.ensures.done (λ x b q k. search (rules, tests)))) c.map.ensures.closure (λ x r q k. search rules))
+    ∙ marks_summed cs

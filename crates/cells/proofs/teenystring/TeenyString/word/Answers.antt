@@ -1,6 +1,5 @@
-use Rattle.std.proofs.Common.{sym}
 use Rattle.cells.proofs.Laid.{bits}
 use Rattle.cells.proofs.teenystring.TeenyString.word.Goals as goal
 
-pub returns : goal.returns
-returns c = record { value = sym c.args.self.now.laid; bits = bits c.args.self.now.word c.args.self.now.laid }
+pub returns-clause-bits : goal.returns-clause-bits
+returns-clause-bits c = bits c.args.self.now.word c.args.self.now.laid
