@@ -131,6 +131,7 @@ impl TeenyString {
         if self.word & WIDE != 0 { 2 } else { 1 }
     }
 
+    // Not `==`, which counts the width too.
     /// Whether the texts agree; the width does not count.
     #[tactic(auto, using(crate::proofs::Laid::same_texts))]
     pub fn same_text(&self, other: &TeenyString) -> bool
