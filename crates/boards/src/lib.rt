@@ -2,4 +2,5 @@
 #![tactic(auto)]
 
 pub mod boarding;
+pub mod packing;
 pub mod texts;

@@ -14,6 +14,8 @@ use columns::vecstorage::VecStorage;
 use gauge::account::Account;
 use kinds::cellattributes::CellAttributes;
 use reports::panels::report;
+use runs::clusterline::ClusteredLine;
+use runs::utf8line::Utf8ClusteredLine;
 use std::alloc::Global;
 use std::io;
 use utf8::Utf8;
@@ -24,5 +26,19 @@ pub fn report_text(rt: &impl Print, heap: Global, text: &[u8]) -> io::Result<Acc
 {
     let cells = Vec::with_capacity(heap, 4096)?;
     let mut row: VecStorage<CellAttributes, Utf8> = VecStorage::new(cells, 4096, 0);
-    report(rt, heap, &mut row, &CellAttributes::blank(), text)
+    let mut packed: Utf8ClusteredLine<CellAttributes> = ClusteredLine::new(
+        Vec::with_capacity(heap, 4096)?,
+        4096,
+        Vec::with_capacity(heap, 28_672)?,
+        28_672,
+        0,
+    );
+    report(
+        rt,
+        heap,
+        &mut row,
+        &mut packed,
+        &CellAttributes::blank(),
+        text,
+    )
 }

@@ -23,6 +23,10 @@ pub struct RowReport<'a> {
     pub text: &'a str,
 }
 
+/// What a row takes in its packed form, or what refuses to pack it.
+#[derive(Drop)]
+pub struct PackingReport<'a>(pub &'a Result<runs::account::Account, Refusal>);
+
 // A struct of its own, since an `Option` prints in no way of ours.
 /// Whether a line fits a display, or by how many columns it passes it.
 #[derive(Drop)]
@@ -59,6 +63,19 @@ impl fmt::Display for RowReport<'_> {
     fn fmt<W: fmt::Write>(&self, f: &mut fmt::Formatter<W>) -> fmt::Result {
         let RowReport { number, text } = self;
         write!(f, "  shown at change number {number}: |{text}|")
+    }
+}
+
+impl fmt::Display for PackingReport<'_> {
+    fn fmt<W: fmt::Write>(&self, f: &mut fmt::Formatter<W>) -> fmt::Result {
+        match self.0 {
+            Ok(used) => write!(
+                f,
+                "  packed: {} runs, {} bytes of text",
+                used.runs, used.bytes
+            ),
+            Err(why) => write!(f, "  cannot be packed: refused {}: {why}", why.number()),
+        }
     }
 }
 

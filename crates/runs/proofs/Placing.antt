@@ -1,11 +1,10 @@
 -- A piece from any place in a text, and the runs behind a cell.
 use Rattle.std.proofs.Common.{◌≡◌, ℕ, zero, suc, ◌+◌, ◌-◌, ◌<◌, ◌≤◌, Bool, false, cond, ltb, List, [], ◌∷◌, length, get_or, take, drop, Ok, sym, refl, ap, ◌∙◌, subst, arith}
-use Rattle.std.proofs.lemmas.List.{drop_more, drop_all, length-drop, take_all}
+use Rattle.std.proofs.lemmas.List.{drop_more, drop_all, length-drop}
 use Rattle.std.specs.Prelude.{vec_items}
 use Rattle.std.proofs.lemmas.Bool.Decides.{nat_tests}
 use Rattle.splitters.specs.Pieces.{pieces}
 use Rattle.splitters.specs.Splits.{Splits}
-use Rattle.splitters.proofs.Cutting.{pieces_none}
 use Rattle.cells.specs.Cleaning.{clean}
 use Rattle.cells.specs.Words.{Text, made}
 use Rattle.runs.specs.declared.memory.Memory.{Memory}
@@ -81,10 +80,3 @@ pub last_more : (f : List ℕ → ℕ) (t : List ℕ) (b e : ℕ) → pieces f (
 last_more f t b e s h =
     let l : length (drop e t) ≡ length t - e = length-drop e t in
     ap last_piece s ∙ last_skip (take (e - b) (drop b t)) (pieces f (drop e t)) (filled f (length (drop e t)) (drop e t) (omega arith) (omega arith))
-
-pub last_here : (f : List ℕ → ℕ) (t : List ℕ) (b e : ℕ) → pieces f (drop b t) ≡ take (e - b) (drop b t) ∷ pieces f (drop e t) → length t ≤ e
-    → last_piece (pieces f (drop b t)) ≡ drop b t
-last_here f t b e s h =
-    let l : length (drop e t) ≡ length t - e = length-drop e t in
-    let d : length (drop b t) ≡ length t - b = length-drop b t in
-    ap last_piece (s ∙ ap (λ us. take (e - b) (drop b t) ∷ us) (pieces_none f (drop e t) (omega arith))) ∙ take_all (e - b) (drop b t) (omega arith)

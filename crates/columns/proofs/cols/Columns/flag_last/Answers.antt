@@ -1,4 +1,4 @@
-use Rattle.std.proofs.Common.{take, sym, refl, ap, ◌∙◌, arith}
+use Rattle.std.proofs.Common.{take, sym, refl, ap, ◌∙◌}
 use Rattle.cells.specs.Cells.{meaning}
 use Rattle.rows.specs.Columns.{shown, over}
 use Rattle.rows.specs.Spread.{spread}
@@ -9,9 +9,6 @@ use Rattle.columns.proofs.Means.{sized_cell}
 use Rattle.columns.proofs.Reading.{last_put, last_shown}
 use Rattle.columns.proofs.Turns.{as_well}
 use Rattle.columns.proofs.cols.Columns.flag_last.Goals as goal
-
-pub put-requires : goal.put-requires
-put-requires g c = let h = c.in-Some.ensures in let w = ap (λ d. d.width) c.flagged.ensures in (omega (arith, h.within), omega (arith, h.ends))
 
 pub returns-in-Some : goal.returns-in-Some
 returns-in-Some g c =
