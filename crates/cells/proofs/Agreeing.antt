@@ -3,7 +3,7 @@ use Rattle.std.proofs.Common.{◌≡◌, ℕ, Bool, ◌&&◌, eqb, List, Decides
 use Rattle.std.proofs.Math.Bool.{and_assoc}
 use Rattle.std.proofs.lemmas.Bool.Decides.{Decides-and, Decides-eqb, Decides-like, same_from_decides}
 use Rattle.std.proofs.lemmas.Slice.Eq.{compares_Decides}
-use Rattle.cells.specs.Cells.{Shown, equal, Equal}
+use Rattle.cells.specs.Cells.{Shown, equal, alike, Equal}
 use Rattle.cells.specs.Kinds.{Kind}
 use Rattle.cells.specs.Words.{word_of, text_of, width_of, same_bytes}
 
@@ -31,3 +31,10 @@ module _ {A : Type 0} (k : Kind A) where
   equal_exact a b =
       Decides-like (equal k a b) (λ p. record { text = p.0; attrs = p.1 }) (λ p. (p.text, p.attrs))
       (Decides-and (same_bytes a.text b.text) (k.same a.attrs b.attrs) (text_exact a.text b.text) (kind_exact a.attrs b.attrs))
+
+  pub alike_exact : (a b : Shown A) → Decides (alike k a b) (a ≡ b)
+  alike_exact a b =
+      Decides-like (alike k a b)
+      (λ (p : (a.width ≡ b.width) × Equal a b). λ i. record { text = p.1.text i; width = p.0 i; attrs = p.1.attrs i })
+      (λ (e : a ≡ b). (ap (λ x. x.width) e, record { text = ap (λ x. x.text) e; attrs = ap (λ x. x.attrs) e }))
+      (Decides-and (eqb a.width b.width) (equal k a b) (Decides-eqb a.width b.width) (equal_exact a b))

@@ -1,10 +1,10 @@
 -- A word from its bytes, and its bytes again.
-use Rattle.std.proofs.Common.{◌≡◌, ℕ, zero, suc, ◌+◌, ◌-◌, ◌*◌, ◌/◌, ◌%◌, ◌^◌, ◌<◌, ◌≤◌, eqb, List, [], ◌∷◌, length, get_or, drop, take, replicate, ◌++◌, sym, refl, ap, ◌∙◌, ⊎_elim, le_of_suc-le-suc, not-suc-le-zero, div-one, arith, pow_mono}
+use Rattle.std.proofs.Common.{◌≡◌, ℕ, zero, suc, ◌+◌, ◌-◌, ◌*◌, ◌/◌, ◌%◌, ◌^◌, ◌<◌, ◌≤◌, eqb, List, [], ◌∷◌, length, get_or, drop, take, ◌++◌, sym, refl, ap, ◌∙◌, subst, ⊎_elim, le_of_suc-le-suc, not-suc-le-zero, div-one, arith, pow_mono}
 use lib.Bits.{bit_and, bit_or, and_mask, or_shifted, or_block, or_zero_r, and_high}
 use lib.Count.{count_leading_zeros}
-use Rattle.std.specs.Int.{w64, byte_at, bytes_low_first, from_le_bytes}
+use Rattle.std.specs.Int.{byte_at, bytes_low_first}
 use Rattle.std.proofs.lemmas.Nat.{pow_pos, pow-add, shr-shr, leading_top}
-use Rattle.std.proofs.lemmas.List.{drop_all, length-drop, length-append}
+use Rattle.std.proofs.lemmas.List.{get_or-drop, length-append, append_assoc, take-append-drop}
 use Rattle.std.proofs.lemmas.Bool.{cases_lt, ne_eqb}
 use Rattle.std.proofs.lemmas.Bool.Decides.{nat_tests}
 use Rattle.cells.specs.Words.{value, word_of, up_to, bytes_in, text_of, width_of, same_bytes, spelled, Bits}
@@ -175,43 +175,36 @@ widened v h =
 pub wide_bit : (w : ℕ) → bit_and w 0x4000_0000_0000_0000 ≡ (w / 2 ^ 62 % 2) * 2 ^ 62
 wide_bit w = and_high w 1 62
 
--- ---- a text read as a number of eight bytes
-value_from : (bs : List ℕ) (i : ℕ) → value (drop i bs) ≡ get_or bs i 0 + 256 * value (drop (suc i) bs)
-value_from [] zero = refl
-value_from [] (suc i) = refl
-value_from (b ∷ bs) zero = refl
-value_from (b ∷ bs) (suc i) = value_from bs i
+-- ---- a text read from its end
+at_end : (q s : List ℕ) (b : ℕ) → get_or (q ++ (b ∷ s)) (length q) 0 ≡ b
+at_end [] s b = refl
+at_end (x ∷ q) s b = at_end q s b
 
-value_past : (bs : List ℕ) (k : ℕ) → length bs ≤ k → value (drop k bs) ≡ 0
-value_past bs k h = ap value (drop_all k bs h)
+front_of : (q s : List ℕ) → take (length q) (q ++ s) ≡ q
+front_of [] s = refl
+front_of (x ∷ q) s = ap (λ u. x ∷ u) (front_of q s)
 
-read_value : (bs : List ℕ) → length bs ≤ 8 → from_le_bytes w64 bs ≡ value bs
-read_value bs h =
-    let a = value_from bs 0 in
-    let b = value_from bs 1 in
-    let c = value_from bs 2 in
-    let d = value_from bs 3 in
-    let e = value_from bs 4 in
-    let f = value_from bs 5 in
-    let g = value_from bs 6 in
-    let k = value_from bs 7 in
-    let z = value_past bs 8 h in
-    omega arith
+behind : (q s : List ℕ) → drop (length q) (q ++ s) ≡ s
+behind [] s = refl
+behind (x ∷ q) s = behind q s
 
-zeros : (n k : ℕ) → value (drop n (replicate k 0)) ≡ 0
-zeros zero zero = refl
-zeros zero (suc k) = let e = zeros zero k in omega arith
-zeros (suc n) zero = refl
-zeros (suc n) (suc k) = zeros n k
-
-value_front : (t z : List ℕ) → value z ≡ 0 → value (t ++ z) ≡ value t
-value_front [] z e = e
-value_front (b ∷ t) z e = ap (λ (x : ℕ). b + 256 * x) (value_front t z e)
-
-pub number_of : (t s : List ℕ) → length t ≤ 8 → s ≡ t ++ drop (length t) (replicate 8 0) → from_le_bytes w64 s ≡ value t
-number_of t s h e =
-    let l : length s ≤ 8 = simp (e, length-append, length-drop) (omega arith) in
-    read_value s l ∙ ap value e ∙ value_front t _ (zeros (length t) 8)
+-- one byte b more: what is left of the text t before it was read is r, and after it q
+pub read_more : (t r q : List ℕ) (b w : ℕ) → length t ≤ 7 → Bytes t → r ≡ q ++ (b ∷ []) → r ≡ take (length r) t → w ≡ value (drop (length r) t)
+    → (q ≡ take (length q) t) × (bit_or (w * 256 % 2 ^ 64) b ≡ value (drop (length q) t))
+read_more t r q b w l f e h v =
+    let s : List ℕ = drop (length r) t in
+    let all : t ≡ q ++ (b ∷ s) =
+    sym (take-append-drop (length r) t) ∙ ap (λ u. u ++ s) (sym h ∙ e) ∙ append_assoc q (b ∷ []) s in
+    let n : length t ≡ length q + suc (length s) = ap length all ∙ length-append q (b ∷ s) in
+    let low : b < 256 = subst (λ (x : ℕ). x < 256) (ap (λ u. get_or u (length q) 0) all ∙ at_end q s b) (f (length q)) in
+    let g : Bytes s = λ j. subst (λ (x : ℕ). x < 256) (sym (get_or-drop (length r) t j 0)) (f (length r + j)) in
+    let m : value s < 2 ^ (8 * 6) = small s 6 (omega arith) g in
+    let z : (w * 256) % 2 ^ 64 ≡ value s * 2 ^ 8 = omega arith in
+    let o = or_shifted (value s) 8 b low in
+    let d : drop (length q) t ≡ b ∷ s = ap (drop (length q)) all ∙ behind q (b ∷ s) in (
+      sym (ap (take (length q)) all ∙ front_of q (b ∷ s)),
+      ap (λ (x : ℕ). bit_or x b) z ∙ o ∙ omega arith ∙ sym (ap value d),
+    )
 
 -- ---- the bits
 pub digit : (k i : ℕ) (bs : List ℕ) (h : ℕ) → i < k → Bytes bs → (value bs + up k h) / 2 ^ (8 * i) % 256 ≡ get_or bs i 0

@@ -3,7 +3,7 @@ ghost use Rattle.std.specs.Prelude.{◌≡◌, ◌≤◌, false, length, None};
 ghost use Rattle.std.specs.List.{slice_get};
 ghost use Rattle.cells.specs.Cleaning.{unclean, clean, space};
 ghost use Rattle.cells.specs.Refusals.{first_of, verdict, mapped};
-ghost use Rattle.cells.specs.Words.{value, word_of, text_of, width_of, bad_width, word_refusals, made, spelled, same_bytes, Bits};
+ghost use Rattle.cells.specs.Words.{value, word_of, text_of, width_of, has_zero, bad_width, word_refusals, made, spelled, same_bytes, Bits};
 
 use crate::cleaning::cleaned;
 use crate::refusal::Refusal;
@@ -22,6 +22,19 @@ pub struct TeenyString {
     ghost narrow: { bad_width (text_of word) (width_of word) ≡ false },
 }
 
+// A loop of its own: the library's `contains` is made for long texts, and makes the word of a short one dear.
+/// Whether a byte of the text is zero.
+fn has_zero(text: &[u8]) -> bool
+    ensures { result ≡ has_zero text.now }
+{
+    for b in text {
+        if *b == 0 {
+            return true;
+        }
+    }
+    false
+}
+
 fn is_bad_width(text: &[u8], width: usize) -> bool
     ensures { result ≡ bad_width text.now width }
 {
@@ -37,7 +50,7 @@ fn is_bad_width(text: &[u8], width: usize) -> bool
 fn check_word(text: &[u8], width: usize) -> Result<(), Refusal>
     ensures { result ≡ verdict (first_of (word_refusals text.now width)) tt }
 {
-    if text.contains(&0) {
+    if has_zero(text) {
         return Err(Refusal::NotOnePiece);
     }
     if text.len() > 7 {
@@ -54,9 +67,11 @@ fn packed(text: &[u8]) -> u64
     requires { length text.now ≤ 7 }
     ensures { result ≡ value text.now }
 {
-    let mut bytes = [0; 8];
-    bytes[..text.len()].copy_from_slice(text);
-    u64::from_le_bytes(bytes)
+    let mut word: u64 = 0;
+    for b in text.iter().rev() {
+        word = (word << 8) | u64::from(*b);
+    }
+    word
 }
 
 /// The word of a clean text that nothing refuses.

@@ -29,8 +29,8 @@ impl<A: Attributes, P: Splitter> Fill for VecStorage<A, P> {
 
     #[tactic(auto, using(rows::proofs::Wholes::shown_spread, crate::proofs::Cuts::opened_whole))]
     fn from_text(&mut self, text: &[u8], attrs: &A, seqno: u64) -> Result<(), Refusal> {
-        self.columns.check_text::<P>(text, attrs)?;
         let pieces = Pieces::<P>::new(text)?;
+        self.columns.check_text(pieces, attrs)?;
         self.columns.clear();
         self.columns.push_text(pieces, attrs);
         self.seqno = seqno;

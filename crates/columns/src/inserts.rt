@@ -21,9 +21,9 @@ use stores::givens::check_cell;
 fn shift<T: Copy>(s: &mut [T], c: T)
     ensures { s.new ≡ take (length s.old) (c ∷ s.old) }
 {
-    if let Some(last) = s.last_mut() {
-        *last = c;
-        s.rotate_right(1);
+    let mut held = c;
+    for slot in s.iter_mut() {
+        held = std::mem::replace(slot, held);
     }
 }
 

@@ -1,5 +1,5 @@
 //! Texts, piece by piece.
-ghost use Rattle.std.specs.Prelude.{◌≡◌, ℕ, ◌+◌, ◌≤◌, false, List, ◌++◌, length, nat_lt};
+ghost use Rattle.std.specs.Prelude.{◌≡◌, ℕ, ◌+◌, ◌≤◌, true, false, List, ◌++◌, length, nat_lt};
 ghost use Rattle.cells.specs.Cells.{meaning};
 ghost use Rattle.cells.specs.Refusals.{first_of, verdict};
 ghost use Rattle.splitters.specs.Pieces.{pieces};
@@ -15,32 +15,41 @@ use crate::cols::Columns;
 use cells::cell::Cell;
 use cells::cleaning::cleaned;
 use cells::refusal::Refusal;
-use splitters::graphemes::new_grapheme;
+use cells::teenystring::TeenyString;
 use splitters::pieces::Pieces;
 use splitters::splitter::Splitter;
 
 /// The cell of a piece.
-#[tactic(auto, using(crate::proofs::Cuts::piece_made))]
 fn piece_cell<P: Splitter, A: Copy>(piece: &[u8], attrs: &A) -> Cell<A>
     requires short { length piece.now ≤ 7 }
     requires alone { Alone P.Splitter.splits piece.now }
     ensures { meaning result ≡ cell_of P.Splitter.splits attrs.now piece.now }
 {
-    new_grapheme::<P, A>(piece, None, *attrs).unwrap()
+    let text = cleaned(piece);
+    let text = TeenyString::new(text, P::width_of(text).columns()).unwrap();
+    Cell {
+        text,
+        attrs: *attrs,
+    }
 }
 
 impl<A: Copy> Columns<A> {
-    /// Whether a text is refused, and why.
+    /// Whether a good text is refused, and why: 3 or 6.
     #[tactic(auto, using(splitters::proofs::Cutting::parts_bytes))]
-    pub(crate) fn check_text<P: Splitter>(&self, text: &[u8], attrs: &A) -> Result<(), Refusal>
-        ensures { result ≡ verdict (first_of (text_refusals P.Splitter.splits (room_of self.now.limit) text.now attrs.now)) tt }
+    pub(crate) fn check_text<P: Splitter>(&self, text: Pieces<P>, attrs: &A) -> Result<(), Refusal>
+        requires good { P.Splitter.splits.good text.rest.now ≡ true }
+        ensures { result ≡ verdict (first_of (text_refusals P.Splitter.splits (room_of self.now.limit) text.entry.rest.now attrs.now)) tt }
     {
         let mut used: usize = 0;
-        for piece in Pieces::<P>::new(text)? {
-            if piece.bytes().len() > 7 {
+        for piece in text {
+            let bytes = piece.bytes();
+            if bytes.len() > 7 {
                 return Err(Refusal::TooLong);
             }
-            used = used.saturating_add(P::width_of(cleaned(piece.bytes())).columns());
+            // Past the limit only long pieces are looked for.
+            if used <= self.limit {
+                used += P::width_of(cleaned(bytes)).columns();
+            }
         }
         if used > self.limit {
             return Err(Refusal::PastCapacity);
@@ -51,6 +60,7 @@ impl<A: Copy> Columns<A> {
     /// Adds the cells of a text at the end.
     #[tactic(auto, using(splitters::proofs::Cutting::parts_bytes))]
     pub(crate) fn push_text<P: Splitter>(&mut self, text: Pieces<P>, attrs: &A)
+        requires good { P.Splitter.splits.good text.rest.now ≡ true }
         requires short { any_long (pieces P.Splitter.splits.first text.rest.now) ≡ false }
         requires fits { length (held self.old) + span (cells_of P.Splitter.splits attrs.now text.rest.now) ≤ self.old.limit }
         ensures { Becomes self.old self.new

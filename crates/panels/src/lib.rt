@@ -17,11 +17,10 @@ use reports::panels::report;
 use runs::clusterline::ClusteredLine;
 use runs::utf8line::Utf8ClusteredLine;
 use std::alloc::Global;
-use std::io;
 use utf8::Utf8;
 
 /// Reports each line of a text, put on a row of 4,096 columns, and then the account, which it answers.
-pub fn report_text(rt: &impl Print, heap: Global, text: &[u8]) -> io::Result<Account>
+pub fn report_text(rt: &impl Print, heap: Global, text: &[u8]) -> anyhow::Result<Account>
     ensures { IfOk result (λ a. a ≡ account_of (map (come_to utf8_splits (room_of 4096) color_blank) (lines_of text.now))) }
 {
     let cells = Vec::with_capacity(heap, 4096)?;
@@ -33,12 +32,13 @@ pub fn report_text(rt: &impl Print, heap: Global, text: &[u8]) -> io::Result<Acc
         28_672,
         0,
     );
-    report(
+    let account = report(
         rt,
         heap,
         &mut row,
         &mut packed,
         &CellAttributes::blank(),
         text,
-    )
+    )?;
+    Ok(account)
 }

@@ -1,7 +1,9 @@
 //! The run store of any splitter: memory that holds the cells which it shows.
-ghost use Rattle.std.specs.Prelude.{◌≡◌, min, [], ◌∷◌, vec_capacity};
+ghost use Rattle.std.specs.Prelude.{◌≡◌, min, [], ◌∷◌, Ok, vec_capacity};
 ghost use Rattle.std.proofs.Common.{rules, arith};
-ghost use Rattle.rows.specs.Packing.{bytes_needed, runs_needed};
+ghost use Rattle.cells.specs.Cells.{meaning};
+ghost use Rattle.rows.specs.Packing.{bytes_needed, runs_needed, emptied, drop_last, take_cell};
+ghost use Rattle.stores.specs.Stores.{Does};
 ghost use Rattle.runs.specs.Sounds.{cells, held_of, left_at, Packed, rule_of, Sound};
 ghost use Rattle.runs.specs.Laws.{sound_sized};
 
@@ -52,6 +54,7 @@ impl<A: Attributes, P: Splitter> ClusteredLine<A, P> {
         ensures row { cells P.Splitter.splits result ≡ [] }
         ensures change { result.seqno ≡ seqno }
         ensures room { (held_of P.Splitter.splits result).sizes ≡ min most (vec_capacity runs) ∷ (min bytes (vec_capacity text) ∷ []) }
+        ensures sound { Sound P.Splitter.splits result }
     {
         runs.clear();
         text.clear();
@@ -136,7 +139,11 @@ impl<A: Attributes, P: Splitter> Store for ClusteredLine<A, P> {
         Some((Cell { text, attrs }, onward(&s.runs, at, end, width)))
     }
 
-    fn clear(&mut self) {
+    // The trait's clause, and that the store stays sound: who sees the calls of this store need not ask its account.
+    fn clear(&mut self)
+        ensures does { Does (held_of P.Splitter.splits) (λ s. s.seqno) emptied self.old (Ok tt) self.new }
+        ensures sound { Sound P.Splitter.splits self.new }
+    {
         let s = &mut self.held;
         s.last = 0;
         s.count = 0;
@@ -145,7 +152,10 @@ impl<A: Attributes, P: Splitter> Store for ClusteredLine<A, P> {
         s.runs.clear();
     }
 
-    fn drop_last(&mut self) {
+    fn drop_last(&mut self)
+        ensures does { Does (held_of P.Splitter.splits) (λ s. s.seqno) drop_last self.old (Ok tt) self.new }
+        ensures sound { Sound P.Splitter.splits self.new }
+    {
         if self.held.count == 0 {
             return;
         }
@@ -161,7 +171,12 @@ impl<A: Attributes, P: Splitter> Store for ClusteredLine<A, P> {
         s.count -= 1;
     }
 
-    fn take(&mut self, c: &Cell<A>) -> Result<(), Refusal> {
+    fn take(&mut self, c: &Cell<A>) -> Result<(), Refusal>
+        ensures does { Does (held_of P.Splitter.splits) (λ s. s.seqno)
+            (take_cell P.Splitter.splits (rule_of A.Attributes.kind P.Splitter.splits (held_of P.Splitter.splits self.old).sizes) (meaning c.now))
+            self.old result self.new }
+        ensures sound { Sound P.Splitter.splits self.new }
+    {
         self.check_take(c)?;
         let mut buffer = [0; 7];
         let text = c.text.read(&mut buffer);

@@ -131,3 +131,21 @@ module _ (p : Splits) where
   next_alone at t x xs g e =
       let q : pieces p.first t ≡ x.bytes ∷ map (λ y. y.bytes) xs = sym (parts_bytes p.first at t) ∙ ap (map (λ y. y.bytes)) e in
       subst (All (Alone p)) q (pieces_alone t g) 0 x.bytes (omega arith)
+
+  -- what is left behind the next piece is good
+  next_good : (at i : ℕ) (t u : List ℕ) (x : Part) → p.good t ≡ true → parts p.first at t ≡ x ∷ parts p.first i u → p.good u ≡ true
+  next_good at i [] u x g e = let n : ◌≡◌ {A = ℕ} 0 1 = cc in absurd (omega arith)
+  next_good at i (b ∷ t) u x g e =
+      let q : pieces p.first (b ∷ t) ≡ x.bytes ∷ pieces p.first u =
+      sym (parts_bytes p.first at (b ∷ t)) ∙ ap (map (λ y. y.bytes)) e ∙ ap (λ ts. x.bytes ∷ ts) (parts_bytes p.first i u) in
+      let n : ℕ = step p.first (b ∷ t) in
+      let m = pieces_more p.first (b ∷ t) (omega arith) in
+      let r : pieces p.first u ≡ pieces p.first (drop n (b ∷ t)) = cc in
+      let v : u ≡ drop n (b ∷ t) = sym (flat_pieces p.first u) ∙ ap flat r ∙ flat_pieces p.first (drop n (b ∷ t)) in
+      let h = first_bounds b t g in
+      let s : n ≡ p.first (b ∷ t) = omega arith in
+      ap p.good v ∙ ap (λ (j : ℕ). p.good (drop j (b ∷ t))) s ∙ p.rest (b ∷ t) g
+
+  pub next_step : (at i : ℕ) (t u : List ℕ) (x : Part) → parts p.first at t ≡ x ∷ parts p.first i u
+      → (parts p.first at t ≡ x ∷ parts p.first i u) × (p.good t ≡ true → p.good u ≡ true)
+  next_step at i t u x e = (e, λ g. next_good at i t u x g e)

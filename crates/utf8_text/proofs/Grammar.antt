@@ -1,6 +1,7 @@
 -- Reading a text is deriving it by the grammar.
 -- by_number  what holds of the bytes of a character, by how many they are
 -- value      the code point of a character's bytes
+-- reads      a text that begins with a character is read by it
 -- view       what is read is a character of the grammar
 -- split      a text is characters up to a place where none begins
 -- exact      a text is good exactly if the grammar derives it
@@ -42,6 +43,11 @@ value (a ∷ (b ∷ (c ∷ (d ∷ t)))) = point_4 a b c d
 pub value_size : {s : List ℕ} (ch : Utf8Char s) → size (value s) ≡ length s
 value_size ch =
     by_number ch (λ s. size (value s) ≡ length s) (λ a h. grind (arith, nat_tests)) (λ a b h. grind (arith, nat_tests))
+    (λ a b c h. grind (arith, nat_tests)) (λ a b c d h. grind (arith, nat_tests))
+
+pub reads : {s : List ℕ} (ch : Utf8Char s) (t : List ℕ) → first_point (s ++ t) ≡ Some (value s, length s)
+reads ch t =
+    by_number ch (λ s. first_point (s ++ t) ≡ Some (value s, length s)) (λ a h. grind (arith, nat_tests)) (λ a b h. grind (arith, nat_tests))
     (λ a b c h. grind (arith, nat_tests)) (λ a b c d h. grind (arith, nat_tests))
 
 pub size_some : (c : ℕ) → 0 < size c

@@ -26,6 +26,7 @@ fn are_three(a: u8, b: u8, c: u8) -> bool
 }
 
 /// Whether four bytes are a character: no longer form than needed, and nothing above U+10FFFF.
+#[inline(always)]
 fn are_four(a: u8, b: u8, c: u8, d: u8) -> bool
     ensures { result ≡ (begins_4 a b && (tail c && tail d)) }
 {
@@ -47,6 +48,8 @@ fn with_tail(front: u32, b: u8) -> u32
 }
 
 /// The code point that a text begins with and how many bytes it takes, or none where it begins with no character.
+// Inlined, as `are_four` and `next` are, so that no pair goes through memory.
+#[inline(always)]
 fn first_point(text: &[u8]) -> Option<(u32, usize)>
     ensures value { result ≡ first_point text.now }
     ensures within { IfSome result (λ p. p.1 ≤ length text.now) }
@@ -77,6 +80,7 @@ impl Iterator for Points<'_> {
 
     ghost remaining = { item_count (λ s. points s.0.now) };
 
+    #[inline(always)]
     fn next(&mut self) -> Option<u32> {
         let (c, n) = first_point(self.0)?;
         self.0 = &self.0[n..];

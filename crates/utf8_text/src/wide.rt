@@ -23,8 +23,12 @@ const WIDE: &[(u32, u32)] = &[
 fn is_wide(c: u32) -> bool
     ensures { result ≡ wide c }
 {
-    let at = WIDE.partition_point(|(_, last)| *last < c);
-    WIDE.get(at).is_some_and(|(first, _)| *first <= c)
+    for (first, last) in WIDE {
+        if c <= *last {
+            return *first <= c;
+        }
+    }
+    false
 }
 
 /// Whether the first code point of a text is wide; not where the text begins with no character.

@@ -1,4 +1,4 @@
-use Rattle.std.proofs.Common.{◌≡◌, ◌+◌, min, map}
+use Rattle.std.proofs.Common.{◌≡◌, ◌+◌, ◌≤◌, min, map}
 use Rattle.splitters.specs.Pieces.{pieces, parts}
 use Rattle.rows.specs.Lists.{span}
 use Rattle.rows.specs.Givens.{cell_of, cells_of, any_long}
@@ -9,6 +9,7 @@ invariant-loop-piece g l =
     let p = g.P.Splitter.splits in
     let ps = map (λ x. x.bytes) (parts p.first l.piece-iterator.at l.piece-iterator.rest.now) in
     record {
-      long : any_long ps ≡ any_long (pieces p.first l.text);
-      used : min (l.used + span (map (cell_of p l.attrs) ps)) 0xffff_ffff_ffff_ffff ≡ min (span (cells_of p l.attrs l.text)) 0xffff_ffff_ffff_ffff;
+      long : any_long ps ≡ any_long (pieces p.first l.fn.text.rest.now);
+      used : min (l.used + span (map (cell_of p l.attrs) ps)) (l.self.limit + 1) ≡ min (span (cells_of p l.attrs l.fn.text.rest.now)) (l.self.limit + 1);
+      bound : l.used ≤ l.self.limit + 2;
     }

@@ -8,4 +8,4 @@ piece_cell-requires-clause-alone g c =
     let p = g.P.Splitter.splits in
     let s = c.loop-piece.piece-iterator in
     let t = c.next.new.self in
-    rw c.bytes.ensures (next_alone p s.at s.rest.now (part_of c.in-Some.piece) (parts p.first t.at t.rest.now) s.good c.in-Some.ensures.steps)
+    rw c.bytes.ensures (next_alone p s.at s.rest.now (part_of c.in-Some.piece) (parts p.first t.at t.rest.now) c.loop-piece.invariant.good c.in-Some.ensures.steps.0)

@@ -1,4 +1,4 @@
-use Rattle.std.proofs.Common.{◌≡◌, ◌+◌, ◌≤◌, false, ◌++◌, map, length}
+use Rattle.std.proofs.Common.{◌≡◌, ◌+◌, ◌≤◌, true, false, ◌++◌, map, length}
 use Rattle.splitters.specs.Pieces.{parts}
 use Rattle.rows.specs.Lists.{span}
 use Rattle.rows.specs.Spread.{spread}
@@ -11,6 +11,7 @@ invariant-loop-piece g l =
     let p = g.P.Splitter.splits in
     let ps = map (λ x. x.bytes) (parts p.first l.piece-iterator.at l.piece-iterator.rest.now) in
     record {
+      good : p.good l.piece-iterator.rest.now ≡ true;
       short : any_long ps ≡ false;
       all : held l.self ++ spread (map (cell_of p l.attrs) ps) ≡ held l.initial.self ++ spread (cells_of p l.attrs l.fn.text.rest.now);
       fits : length (held l.self) + span (map (cell_of p l.attrs) ps) ≤ l.self.limit;

@@ -18,9 +18,15 @@ invariant_of-self g c =
     c.self.view_is c.self.invariant (omega arith) c.len-cols.ensures c.saturating_sub.ensures c.bit-on.ensures.value c.width_by.ensures
     c.truncate.ensures.items c.pop_run.ensures.items c.mark.ensures.bits c.mark.ensures.ones c.as_slice.ensures.value c.last_start-s.ensures.piece).sound
 
-pub returns : goal.returns
-returns g c =
+pub returns-clause-does : goal.returns-clause-does
+returns-clause-does g c =
     let b = lost g.P.Splitter.splits g.A.Attributes.kind c.last_start-s.result c.mark.new.words
     c.self.view_is c.self.invariant (omega arith) c.len-cols.ensures c.saturating_sub.ensures c.bit-on.ensures.value c.width_by.ensures
     c.truncate.ensures.items c.pop_run.ensures.items c.mark.ensures.bits c.mark.ensures.ones c.as_slice.ensures.value c.last_start-s.ensures.piece in
     rw (← c.self.view_is) (record { says = refl; row = b.row; change = refl; room = refl })
+
+pub returns-clause-sound : goal.returns-clause-sound
+returns-clause-sound g c =
+    (lost g.P.Splitter.splits g.A.Attributes.kind c.last_start-s.result c.mark.new.words
+    c.self.view_is c.self.invariant (omega arith) c.len-cols.ensures c.saturating_sub.ensures c.bit-on.ensures.value c.width_by.ensures
+    c.truncate.ensures.items c.pop_run.ensures.items c.mark.ensures.bits c.mark.ensures.ones c.as_slice.ensures.value c.last_start-s.ensures.piece).sound
