@@ -4,7 +4,7 @@ use lib.Bits.{bit_and, bit_or, and_mask, or_shifted, or_block, or_zero_r, and_hi
 use lib.Count.{count_leading_zeros}
 use Rattle.std.specs.Int.{byte_at, bytes_low_first}
 use Rattle.std.proofs.lemmas.Nat.{pow_pos, pow-add, shr-shr, leading_top}
-use Rattle.std.proofs.lemmas.List.{get_or-drop, length-append, append_assoc, take-append-drop}
+use Rattle.std.proofs.lemmas.List.{get_or-drop, get_or_at, take_at, drop_at, length-append, append_assoc, take-append-drop}
 use Rattle.std.proofs.lemmas.Bool.{cases_lt, ne_eqb}
 use Rattle.std.proofs.lemmas.Bool.Decides.{nat_tests}
 use Rattle.cells.specs.Words.{value, word_of, up_to, bytes_in, text_of, width_of, same_bytes, spelled, Bits}
@@ -176,18 +176,6 @@ pub wide_bit : (w : ℕ) → bit_and w 0x4000_0000_0000_0000 ≡ (w / 2 ^ 62 % 2
 wide_bit w = and_high w 1 62
 
 -- ---- a text read from its end
-at_end : (q s : List ℕ) (b : ℕ) → get_or (q ++ (b ∷ s)) (length q) 0 ≡ b
-at_end [] s b = refl
-at_end (x ∷ q) s b = at_end q s b
-
-front_of : (q s : List ℕ) → take (length q) (q ++ s) ≡ q
-front_of [] s = refl
-front_of (x ∷ q) s = ap (λ u. x ∷ u) (front_of q s)
-
-behind : (q s : List ℕ) → drop (length q) (q ++ s) ≡ s
-behind [] s = refl
-behind (x ∷ q) s = behind q s
-
 -- one byte b more: what is left of the text t before it was read is r, and after it q
 pub read_more : (t r q : List ℕ) (b w : ℕ) → length t ≤ 7 → Bytes t → r ≡ q ++ (b ∷ []) → r ≡ take (length r) t → w ≡ value (drop (length r) t)
     → (q ≡ take (length q) t) × (bit_or (w * 256 % 2 ^ 64) b ≡ value (drop (length q) t))
@@ -196,13 +184,13 @@ read_more t r q b w l f e h v =
     let all : t ≡ q ++ (b ∷ s) =
     sym (take-append-drop (length r) t) ∙ ap (λ u. u ++ s) (sym h ∙ e) ∙ append_assoc q (b ∷ []) s in
     let n : length t ≡ length q + suc (length s) = ap length all ∙ length-append q (b ∷ s) in
-    let low : b < 256 = subst (λ (x : ℕ). x < 256) (ap (λ u. get_or u (length q) 0) all ∙ at_end q s b) (f (length q)) in
+    let low : b < 256 = subst (λ (x : ℕ). x < 256) (ap (λ u. get_or u (length q) 0) all ∙ get_or_at q b s 0 (length q) refl) (f (length q)) in
     let g : Bytes s = λ j. subst (λ (x : ℕ). x < 256) (sym (get_or-drop (length r) t j 0)) (f (length r + j)) in
     let m : value s < 2 ^ (8 * 6) = small s 6 (omega arith) g in
     let z : (w * 256) % 2 ^ 64 ≡ value s * 2 ^ 8 = omega arith in
     let o = or_shifted (value s) 8 b low in
-    let d : drop (length q) t ≡ b ∷ s = ap (drop (length q)) all ∙ behind q (b ∷ s) in (
-      sym (ap (take (length q)) all ∙ front_of q (b ∷ s)),
+    let d : drop (length q) t ≡ b ∷ s = ap (drop (length q)) all ∙ drop_at q (b ∷ s) (length q) refl in (
+      sym (ap (take (length q)) all ∙ take_at q (b ∷ s) (length q) refl),
       ap (λ (x : ℕ). bit_or x b) z ∙ o ∙ omega arith ∙ sym (ap value d),
     )
 

@@ -12,7 +12,7 @@ pub struct Pieces<'a, P> {
     ghost fits: { at + length rest.now < 2 ^ 64 },
 }
 
-// By hand, since a derived copy would ask for one of the splitter too.
+// By hand: beside the ghost field it cannot be derived.
 /// A copy reads on by itself, and nobody tests the text again for it.
 impl<'a, P> Clone for Pieces<'a, P> {
     ghost is_clone = { λ x y. y ≡ x };
